@@ -1,0 +1,144 @@
+// Labels: their range, their order and New label (01, "Labels").
+ghost use mathlib.Core.Path.{_≡_};
+ghost use mathlib.Core.Bool.{true};
+ghost use Prim.Native.Nat.{_+_, _*_, _≤_};
+ghost use Rattle.label.specs.Label.{inRange, above, fitting, next, split, newLabel, newLabelCall, outcome};
+
+// A destination's sequence number.
+pub struct SequenceNumber(pub u64);
+
+// The label (s, m/d).
+pub struct Label {
+    pub s: SequenceNumber,
+    pub m: u32,
+    pub d: u32,
+}
+
+// What New label answers.
+pub enum NewLabel {
+    // The new label.
+    Took(Label),
+    // 1: a label is out of range.
+    OutOfRange,
+    // 112: the own label isn't above the advertised one.
+    OwnNotAbove,
+    // 113: the cached label isn't above the advertised one.
+    CachedNotAbove,
+    // 114: the denominator doesn't fit 32 bits.
+    Overflow,
+}
+
+// Whether l is unassigned, or has s > 0 and m < d.
+pub fn in_range(l: Label) -> bool
+    ensures { λ r. ⌜ r ≡ inRange l ⌝ }
+{
+    let s = l.s.0;
+    let m = l.m;
+    let d = l.d;
+    if s == 0 {
+        return m == 1 && d == 1;
+    }
+    m < d
+}
+
+// The whole sum.
+fn sum(a: u32, b: u32) -> u64
+    ensures { λ r. ⌜ r ≡ a + b ⌝ }
+{
+    (a as u64) + (b as u64)
+}
+
+// The whole product.
+fn product(a: u32, b: u32) -> u64
+    ensures { λ r. ⌜ r ≡ a * b ⌝ }
+{
+    (a as u64) * (b as u64)
+}
+
+// Whether x is above y.
+pub fn is_above(x: Label, y: Label) -> bool
+    ensures { λ r. ⌜ r ≡ above x y ⌝ }
+{
+    let s = x.s.0;
+    let t = y.s.0;
+    if s < t {
+        return true;
+    }
+    if t < s {
+        return false;
+    }
+    product(y.m, x.d) < product(x.m, y.d)
+}
+
+// The label (s, m/d), if its denominator fits 32 bits.
+fn fitted(s: SequenceNumber, m: u64, d: u64) -> NewLabel
+    requires { ⌜ m ≤ d ⌝ }
+    ensures { λ r. ⌜ outcome r ≡ fitting (s .0) m d ⌝ }
+{
+    if 4294967295 < d {
+        return NewLabel::Overflow;
+    }
+    NewLabel::Took(Label {
+        s: s,
+        m: m as u32,
+        d: d as u32,
+    })
+}
+
+// The label after v, with (m+1)/(d+1).
+fn next_of(v: Label) -> NewLabel
+    requires { ⌜ inRange v ≡ true ⌝ }
+    ensures { λ r. ⌜ outcome r ≡ next v ⌝ }
+{
+    fitted(v.s, sum(v.m, 1), sum(v.d, 1))
+}
+
+// The split of c and v.
+fn split_of(c: Label, v: Label) -> NewLabel
+    requires { ⌜ (inRange c ≡ true) × (inRange v ≡ true) ⌝ }
+    ensures { λ r. ⌜ outcome r ≡ split c v ⌝ }
+{
+    fitted(v.s, sum(c.m, v.m), sum(c.d, v.d))
+}
+
+// New label, of labels in range.
+fn new_label_in_range(a: Label, c: Label, v: Label) -> NewLabel
+    requires { ⌜ (inRange c ≡ true) × (inRange v ≡ true) ⌝ }
+    ensures { λ r. ⌜ outcome r ≡ newLabel a c v ⌝ }
+{
+    if !is_above(a, v) {
+        return NewLabel::OwnNotAbove;
+    }
+    if !is_above(c, v) {
+        return NewLabel::CachedNotAbove;
+    }
+    let own = a.s.0;
+    let cached = c.s.0;
+    let advertised = v.s.0;
+    if own < advertised {
+        if cached < advertised {
+            return next_of(v);
+        }
+        return split_of(c, v);
+    }
+    if is_above(c, a) {
+        return NewLabel::Took(a);
+    }
+    split_of(c, v)
+}
+
+// New label from the own label a, the cached label c and the advertised label v.
+pub fn new_label(a: Label, c: Label, v: Label) -> NewLabel
+    ensures { λ r. ⌜ outcome r ≡ newLabelCall a c v ⌝ }
+{
+    if !in_range(a) {
+        return NewLabel::OutOfRange;
+    }
+    if !in_range(c) {
+        return NewLabel::OutOfRange;
+    }
+    if !in_range(v) {
+        return NewLabel::OutOfRange;
+    }
+    new_label_in_range(a, c, v)
+}
