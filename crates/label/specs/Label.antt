@@ -4,7 +4,6 @@ use mathlib.Core.Path.{_≡_}
 use mathlib.Core.Bool.{Bool, true, false, _&&_, _||_, not}
 use lib.Dec.{ltb, eqb}
 use Rattle.base.specs.Choice.{if_then_else_}
-use Rattle.label.specs.declared.SequenceNumber.{SequenceNumber}
 use Rattle.label.specs.declared.Label.{Label}
 use Rattle.label.specs.declared.NewLabel.{NewLabel}
 use Rattle.label.specs.declared.NewLabel.the-variants.{Took, OutOfRange, OwnNotAbove, CachedNotAbove, Overflow}

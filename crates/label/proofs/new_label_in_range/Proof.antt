@@ -1,6 +1,5 @@
 -- `label::new_label_in_range` meets its contract: each answer by its case of the definition.
-use mathlib.Core.Path.{_≡_, sym, _∙_}
-use mathlib.Core.Bool.{true}
+use mathlib.Core.Path.{sym, _∙_}
 use native.Mathlib.Omega.{arith}
 use borrow.Author.Needs.{needs}
 use Rattle.base.proofs.Flags.{was-true, was-false, not-was-true, not-was-false}
