@@ -9,7 +9,7 @@ use borrow.Author.Tests.{lt-ltb, le-ltb, eq-eqb, ltb-true, ltb-false}
 use Rattle.base.proofs.Flags.{clash}
 use Rattle.label.specs.declared.Label.{Label}
 use Rattle.label.specs.Label.{label, inRange, above, _≻_, _⪰_, Outcome, took, gave, fitting, next, split, newLabel, newLabelCall, MaintainsOrder}
-use Rattle.label.proofs.Range.{assigned-in-range, range-cases, InRange, unassigned, assigned, range-assigned}
+use Rattle.label.proofs.Range.{assigned-in-range, range-cases, InRange, is-unassigned, is-assigned, range-assigned}
 use Rattle.label.proofs.Order.{above-lower, above-higher, Ordered, by-number, by-fraction, ≻-ordered, ordered-≻, ≻-number, ≻-irreflexive, ≻-asymmetric, ⪰-≻-transitive}
 
 -- A denominator that fits, and one that doesn't.
@@ -96,9 +96,9 @@ module _ (a c v g : Label) (ra : inRange a ≡ true) (rc : inRange c ≡ true) (
   both-assigned e h = go (range-cases c rc) (range-cases v rv)
     where
       go : InRange c → InRange v → 0 < v .s .0
-      go (unassigned _ m d) (unassigned _ p q) = absurd (omega (arith, simp (m, d, p, q) at h))
-      go (unassigned _ _ _) (assigned s _) = s
-      go (assigned s _) w = omega arith
+      go (is-unassigned _ m d) (is-unassigned _ p q) = absurd (omega (arith, simp (m, d, p, q) at h))
+      go (is-unassigned _ _ _) (is-assigned s _) = s
+      go (is-assigned s _) w = omega arith
 
   -- The split maintains order where it is given.
   split-maintains : c ≻ v → c .s .0 ≡ v .s .0 → (a .s .0 < v .s .0) ⊎ (a ⪰ c) → split c v ≡ took g → MaintainsOrder a c v g

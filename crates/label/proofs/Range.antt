@@ -7,7 +7,7 @@ use lib.Dec.{ltb, eqb}
 use borrow.Author.Tests.{lt-ltb, le-ltb, eq-eqb, ne-eqb, ltb-true, eqb-true, eqb-false}
 use Rattle.base.proofs.Flags.{both}
 use Rattle.label.specs.declared.Label.{Label}
-use Rattle.label.specs.Label.{isUnassigned, inRange}
+use Rattle.label.specs.Label.{unassigned, isUnassigned, inRange}
 
 -- By cases on the sequence number.
 pub range-zero : (l : Label) → l .s .0 ≡ 0 → inRange l ≡ eqb (l .m) 1 && eqb (l .d) 1
@@ -21,10 +21,14 @@ range-other l e = simp (ne-eqb _ _ e, lt-ltb 0 (l .s .0) (omega (arith, e)))
 pub assigned-in-range : (l : Label) → 0 < l .s .0 → l .m < l .d → inRange l ≡ true
 assigned-in-range l s m = range-other l (λ z. omega arith) ∙ lt-ltb _ _ m
 
+pub unassigned-in-range : inRange unassigned ≡ true
+unfolding inRange isUnassigned unassigned
+unassigned-in-range = refl
+
 -- A label in range is (0, 1/1), or has s > 0 and m < d.
 pub data InRange (l : Label) : Type 0 where
-  unassigned : l .s .0 ≡ 0 → l .m ≡ 1 → l .d ≡ 1 → InRange l
-  assigned : 0 < l .s .0 → l .m < l .d → InRange l
+  is-unassigned : l .s .0 ≡ 0 → l .m ≡ 1 → l .d ≡ 1 → InRange l
+  is-assigned : 0 < l .s .0 → l .m < l .d → InRange l
 
 pub range-cases : (l : Label) → inRange l ≡ true → InRange l
 range-cases l h = go (eqb (l .s .0) 0) refl
@@ -33,29 +37,29 @@ range-cases l h = go (eqb (l .s .0) 0) refl
     go true e =
         let z : l .s .0 ≡ 0 = eqb-true _ _ e in
         let w : (eqb (l .m) 1 ≡ true) × (eqb (l .d) 1 ≡ true) = both _ _ (sym (range-zero l z) ∙ h) in
-        unassigned z (eqb-true _ _ (w .0)) (eqb-true _ _ (w .1))
+        is-unassigned z (eqb-true _ _ (w .0)) (eqb-true _ _ (w .1))
     go false e =
         let z : (l .s .0 ≡ 0 → ⊥) = eqb-false _ _ e in
-        assigned (omega (arith, z)) (ltb-true _ _ (sym (range-other l z) ∙ h))
+        is-assigned (omega (arith, z)) (ltb-true _ _ (sym (range-other l z) ∙ h))
 
 -- Its fraction is at most 1, and below 1 where it is assigned; its denominator is not 0.
 pub range-fraction : (l : Label) → inRange l ≡ true → l .m ≤ l .d
 range-fraction l h = go (range-cases l h)
   where
     go : InRange l → l .m ≤ l .d
-    go (unassigned z m d) = omega arith
-    go (assigned s m) = omega arith
+    go (is-unassigned z m d) = omega arith
+    go (is-assigned s m) = omega arith
 
 pub range-assigned : (l : Label) → inRange l ≡ true → 0 < l .s .0 → l .m < l .d
 range-assigned l h s = go (range-cases l h)
   where
     go : InRange l → l .m < l .d
-    go (unassigned z m d) = absurd (omega arith)
-    go (assigned s m) = m
+    go (is-unassigned z m d) = absurd (omega arith)
+    go (is-assigned s m) = m
 
 pub range-denominator : (l : Label) → inRange l ≡ true → 0 < l .d
 range-denominator l h = go (range-cases l h)
   where
     go : InRange l → 0 < l .d
-    go (unassigned z m d) = omega arith
-    go (assigned s m) = omega arith
+    go (is-unassigned z m d) = omega arith
+    go (is-assigned s m) = omega arith

@@ -13,6 +13,9 @@ abbrev pub label : ℕ → ℕ → ℕ → Label
 label s m d = record { s = record { 0 = s }; m = m; d = d }
 
 -- "Unassigned is (0, 1/1)".
+unfoldable pub unassigned : Label
+unassigned = label 0 1 1
+
 unfoldable pub isUnassigned : Label → Bool
 isUnassigned l = eqb (l .s .0) 0 && eqb (l .m) 1 && eqb (l .d) 1
 

@@ -1,0 +1,187 @@
+-- Laws of tests over numbers and lists.
+use Prim.Native.Nat.{ℕ, zero, suc, _≤_, _<_}
+use mathlib.Core.Path.{_≡_, refl, sym, ap, subst, _∙_}
+use mathlib.Core.Logic.{_≢_}
+use mathlib.Core.Bool.{Bool, true, false, not}
+use mathlib.Core.List.{List, [], _∷_, _++_, tail, List·Memᴰ, List·Memᴰ·head, List·Memᴰ·tail, List·Memᴰ·not-nil}
+use mathlib.Core.List.{List·Memᴰ·cases-cons, List·Memᴰ·append-cases, List·Memᴰ·eq-of-singleton}
+use lib.ListN.{length, getD, set, take, drop}
+use lib.Dec.{eqb}
+use native.Mathlib.Omega.{arith}
+use borrow.Author.Tests.{eqb-true, eqb-false, ne-eqb, not-true}
+use Rattle.base.specs.Choice.{if_then_else_}
+use Rattle.base.specs.Lists.{allBelow, below, allIn, someIn, keep, isEmpty, distinct}
+use Rattle.base.proofs.Flags.{clash, both, neither, passes, negates, choose, cases, Against, less, equal, more, against}
+
+-- Every number below n passes.
+pub all-below : (n : ℕ) (f : ℕ → Bool) → ((i : ℕ) → i < n → f i ≡ true) → allBelow n f ≡ true
+unfolding allBelow
+all-below zero f h = refl
+all-below (suc n) f h = passes (all-below n f (λ i l. h i (omega arith))) (h n (omega arith))
+
+pub all-below-at : (n : ℕ) (f : ℕ → Bool) → allBelow n f ≡ true → (i : ℕ) → i < n → f i ≡ true
+unfolding allBelow
+all-below-at zero f e i h = absurd (omega arith)
+all-below-at (suc n) f e i h = go (against i n) (λ l. all-below-at n f (both (allBelow n f) (f n) e .0) i l)
+  where
+    go : Against i n → (i < n → f i ≡ true) → f i ≡ true
+    go (less l) ih = ih l
+    go (equal q) ih = ap f q ∙ both (allBelow n f) (f n) e .1
+    go (more l) ih = absurd (omega arith)
+
+-- The numbers below n that pass are below n and pass.
+pub below-mem : (n : ℕ) (f : ℕ → Bool) {x : ℕ} → List·Memᴰ x (below n f) → (x < n) × (f x ≡ true)
+unfolding below
+below-mem zero f m = absurd (List·Memᴰ·not-nil m)
+below-mem (suc n) f {x} m = cases (List·Memᴰ·append-cases (below n f) m) (λ k. let h = below-mem n f k in (omega (arith, h .0), h .1)) (λ k. last (f n) refl k)
+  where
+    last : (t : Bool) → f n ≡ t → List·Memᴰ x (if t then n ∷ [] else []) → (x < suc n) × (f x ≡ true)
+    last true e k = let p : x ≡ n = List·Memᴰ·eq-of-singleton k in (omega arith, ap f p ∙ e)
+    last false e k = absurd (List·Memᴰ·not-nil k)
+
+-- Elements by their places.
+module _ {A : Type 0} where
+  pub mem-at : (l : List A) (k : ℕ) (d : A) → k < length l → List·Memᴰ (getD l k d) l
+  mem-at [] k d h = absurd (omega arith)
+  mem-at (x ∷ l) zero d h = List·Memᴰ·head refl
+  mem-at (x ∷ l) (suc k) d h = List·Memᴰ·tail (mem-at l k d (omega arith))
+
+  pub mem-take : (k : ℕ) (l : List A) {x : A} → List·Memᴰ x (take k l) → List·Memᴰ x l
+  mem-take zero l m = absurd (List·Memᴰ·not-nil m)
+  mem-take (suc k) [] m = m
+  mem-take (suc k) (y ∷ l) {x} m = cases (List·Memᴰ·cases-cons m) (λ p. List·Memᴰ·head p) (λ j. List·Memᴰ·tail (mem-take k l j))
+
+  pub mem-drop : (k : ℕ) (l : List A) {x : A} → List·Memᴰ x (drop k l) → List·Memᴰ x l
+  mem-drop zero l m = m
+  mem-drop (suc k) [] m = m
+  mem-drop (suc k) (y ∷ l) m = List·Memᴰ·tail (mem-drop k l m)
+
+  -- A place after a write holds the value written, if it is the place, or what it held.
+  pub set-either : (P : A → Type 0) (l : List A) (k q : ℕ) (x d : A) → (q ≡ k → P x) → P (getD l q d) → P (getD (set l k x) q d)
+  set-either P [] k q x d new old = old
+  set-either P (y ∷ l) zero zero x d new old = new refl
+  set-either P (y ∷ l) zero (suc q) x d new old = old
+  set-either P (y ∷ l) (suc k) zero x d new old = old
+  set-either P (y ∷ l) (suc k) (suc q) x d new old = set-either P l k q x d (λ e. new (ap suc e)) old
+
+  pub mem-tail : (l : List A) {x : A} → List·Memᴰ x (tail l) → List·Memᴰ x l
+  mem-tail [] m = m
+  mem-tail (y ∷ l) m = List·Memᴰ·tail m
+
+  pub length-tail : (l : List A) (k : ℕ) → length l ≤ suc k → length (tail l) ≤ k
+  length-tail [] k h = omega arith
+  length-tail (y ∷ l) k h = omega arith
+
+  pub empty-nil : (l : List A) → isEmpty l ≡ true → l ≡ []
+  unfolding isEmpty
+  empty-nil [] e = refl
+  empty-nil (x ∷ l) e = clash e refl
+
+  pub filled-not-nil : (l : List A) → isEmpty l ≡ false → l ≢ []
+  unfolding isEmpty
+  filled-not-nil l e q = clash (ap isEmpty q) e
+
+module _ {A : Type 0} (f : A → Bool) where
+  -- Every element passes.
+  pub all-in : (l : List A) → ((x : A) → List·Memᴰ x l → f x ≡ true) → allIn f l ≡ true
+  unfolding allIn
+  all-in [] h = refl
+  all-in (x ∷ l) h = passes (h x (List·Memᴰ·head refl)) (all-in l (λ y m. h y (List·Memᴰ·tail m)))
+
+  pub all-in-at : (l : List A) → allIn f l ≡ true → (x : A) → List·Memᴰ x l → f x ≡ true
+  unfolding allIn
+  all-in-at [] e x m = absurd (List·Memᴰ·not-nil m)
+  all-in-at (y ∷ l) e x m = cases (List·Memᴰ·cases-cons m) (λ p. ap f p ∙ both (f y) (allIn f l) e .0) (λ k. all-in-at l (both (f y) (allIn f l) e .1) x k)
+
+  -- Where none passes, no element does, and the other way round.
+  pub none-in : (l : List A) → ((x : A) → List·Memᴰ x l → f x ≡ false) → someIn f l ≡ false
+  unfolding someIn
+  none-in [] h = refl
+  none-in (x ∷ l) h = simp (h x (List·Memᴰ·head refl), none-in l (λ y m. h y (List·Memᴰ·tail m)))
+
+  pub none-in-at : (l : List A) → someIn f l ≡ false → (x : A) → List·Memᴰ x l → f x ≡ false
+  unfolding someIn
+  none-in-at [] e x m = absurd (List·Memᴰ·not-nil m)
+  none-in-at (y ∷ l) e x m = cases (List·Memᴰ·cases-cons m) (λ p. ap f p ∙ neither (f y) (someIn f l) e .0) (λ k. none-in-at l (neither (f y) (someIn f l) e .1) x k)
+
+  -- What is kept stood in the list and passes.
+  pub keep-mem : (l : List A) {x : A} → List·Memᴰ x (keep f l) → List·Memᴰ x l × (f x ≡ true)
+  unfolding keep
+  keep-mem [] m = absurd (List·Memᴰ·not-nil m)
+  keep-mem (y ∷ l) {x} m = choose (λ z. List·Memᴰ x z → List·Memᴰ x (y ∷ l) × (f x ≡ true)) (f y)
+      (λ e k. cases (List·Memᴰ·cases-cons k) (λ p. (List·Memᴰ·head p, ap f p ∙ e)) (λ j. later (keep-mem l j)))
+      (λ e k. later (keep-mem l k)) m
+    where
+      later : List·Memᴰ x l × (f x ≡ true) → List·Memᴰ x (y ∷ l) × (f x ≡ true)
+      later h = (List·Memᴰ·tail (h .0), h .1)
+
+  pub keep-length : (l : List A) → length (keep f l) ≤ length l
+  unfolding keep
+  keep-length [] = omega arith
+  keep-length (y ∷ l) =
+      let h = keep-length l in
+      choose (λ (z : List A). length z ≤ suc (length l)) (f y) (λ e. omega arith) (λ e. omega arith)
+
+-- A list in which no number stands twice, as the absence of its first from the rest.
+pub distinct-cons : (x : ℕ) (l : List ℕ) → (List·Memᴰ x l → ⊥) → distinct l ≡ true → distinct (x ∷ l) ≡ true
+unfolding distinct
+distinct-cons x l h d = passes (negates (none-in (eqb x) l (λ y m. ne-eqb x y (λ e. h (subst (λ z. List·Memᴰ z l) (sym e) m))))) d
+
+pub distinct-first : (x : ℕ) (l : List ℕ) → distinct (x ∷ l) ≡ true → List·Memᴰ x l → ⊥
+unfolding distinct
+distinct-first x l d m = eqb-false x x (none-in-at (eqb x) l (not-true (someIn (eqb x) l) (both (not (someIn (eqb x) l)) (distinct l) d .0)) x m) refl
+
+pub distinct-rest : (x : ℕ) (l : List ℕ) → distinct (x ∷ l) ≡ true → distinct l ≡ true
+unfolding distinct
+distinct-rest x l d = both (not (someIn (eqb x) l)) (distinct l) d .1
+
+pub distinct-tail : (l : List ℕ) → distinct l ≡ true → distinct (tail l) ≡ true
+distinct-tail [] d = d
+distinct-tail (x ∷ l) d = distinct-rest x l d
+
+pub distinct-last : (l : List ℕ) (x : ℕ) → (List·Memᴰ x l → ⊥) → distinct l ≡ true → distinct (l ++ (x ∷ [])) ≡ true
+distinct-last [] x h d = distinct-cons x [] (λ m. List·Memᴰ·not-nil m) d
+distinct-last (y ∷ l) x h d =
+    distinct-cons y (l ++ (x ∷ []))
+    (λ m. cases (List·Memᴰ·append-cases l m) (distinct-first y l d) (λ k. h (List·Memᴰ·head (sym (List·Memᴰ·eq-of-singleton k)))))
+    (distinct-last l x (λ m. h (List·Memᴰ·tail m)) (distinct-rest y l d))
+
+-- At most n numbers stand below n, if none stands twice.
+module _ (n : ℕ) where
+  others : List ℕ → List ℕ
+  others l = keep (λ x. not (eqb x n)) l
+
+  others-mem : (l : List ℕ) {x : ℕ} → List·Memᴰ x (others l) → List·Memᴰ x l × (x ≢ n)
+  unfolding others
+  others-mem l m = let h = keep-mem (λ x. not (eqb x n)) l m in (h .0, eqb-false _ n (not-true _ (h .1)))
+
+  others-distinct : (l : List ℕ) → distinct l ≡ true → distinct (others l) ≡ true
+  unfolding others keep
+  others-distinct [] d = d
+  others-distinct (x ∷ l) d = let h = others-distinct l (distinct-rest x l d) in
+      choose (λ z. distinct z ≡ true) (not (eqb x n)) (λ e. distinct-cons x (others l) (λ m. distinct-first x l d (others-mem l m .0)) h) (λ e. h)
+
+  others-all : (l : List ℕ) → (List·Memᴰ n l → ⊥) → length l ≤ length (others l)
+  unfolding others keep
+  others-all [] h = omega arith
+  others-all (x ∷ l) h = rw (ne-eqb x n (λ e. h (List·Memᴰ·head (sym e)))) (omega (arith, others-all l (λ m. h (List·Memᴰ·tail m))))
+
+  others-length : (l : List ℕ) → distinct l ≡ true → length l ≤ suc (length (others l))
+  unfolding others keep
+  others-length [] d = omega arith
+  others-length (x ∷ l) d = go (eqb x n) refl (others-length l (distinct-rest x l d))
+    where
+      go : (t : Bool) → eqb x n ≡ t → length l ≤ suc (length (others l)) → suc (length l) ≤ suc (length (if not t then x ∷ others l else others l))
+      go true e h = omega (arith, others-all l (λ m. distinct-first x l d (subst (λ z. List·Memᴰ z l) (sym (eqb-true x n e)) m)))
+      go false e h = omega arith
+
+pub pigeonhole : (n : ℕ) (l : List ℕ) → distinct l ≡ true → ((x : ℕ) → List·Memᴰ x l → x < n) → length l ≤ n
+unfolding others
+pigeonhole zero [] d h = omega arith
+pigeonhole zero (x ∷ l) d h = let k = h x (List·Memᴰ·head refl) in absurd (omega arith)
+pigeonhole (suc n) l d h =
+    let k = pigeonhole n (others n l) (others-distinct n l d) (λ x m. less-than x (others-mem n l m)) in
+    omega (arith, others-length n l d)
+  where
+    less-than : (x : ℕ) → List·Memᴰ x l × (x ≢ n) → x < n
+    less-than x p = let k = h x (p .0) in let q : x ≢ n = p .1 in omega arith

@@ -1,0 +1,10 @@
+pub mod Rows
+pub mod Links
+pub mod Invariant
+pub mod Range
+pub mod Fresh
+pub mod Sending
+pub mod Delivery
+pub mod Steps
+pub mod Tracing
+pub mod Walking

@@ -1,0 +1,183 @@
+-- Laws of rows: entries kept, put and taken out.
+use Prim.Native.Nat.{ℕ, zero, suc, _+_, _^_, _≤_, _<_}
+use mathlib.Core.Path.{_≡_, refl, sym, ap, subst, _∙_}
+use mathlib.Core.Logic.{_⊎_, inl, inr, _≢_}
+use mathlib.Core.Bool.{Bool, true, false, _&&_}
+use mathlib.Core.List.{List, [], _∷_, _++_, map-append, tail}
+use mathlib.Core.List.{List·Memᴰ, List·Memᴰ·head, List·Memᴰ·tail, List·Memᴰ·not-nil, List·Memᴰ·cases-cons}
+use mathlib.Core.List.{List·Memᴰ·append-cases, List·Memᴰ·eq-of-singleton, Memᴰ·map, Memᴰ·of-map}
+use lib.ListN.{length, getD, set, length-append, length-set}
+use lib.Seq.{getD-set-same, getD-set-other}
+use lib.Dec.{ltb, eqb}
+use native.Mathlib.Omega.{arith}
+use borrow.Author.Tests.{ltb-true, eqb-true, eqb-false, not-true}
+use Rattle.base.specs.Choice.{if_then_else_}
+use Rattle.base.specs.Lists.{someIn, keep, distinct}
+use Rattle.base.proofs.Flags.{choose, cases, Against, less, equal, more, against}
+use Rattle.base.proofs.Lists.{none-in-at, keep-mem, mem-tail, length-tail, set-either}
+use Rattle.base.proofs.Lists.{distinct-cons, distinct-first, distinct-rest, distinct-tail, distinct-last}
+use Rattle.label.specs.declared.Label.{Label}
+use Rattle.label.specs.Label.{_≻_}
+use Rattle.model.specs.Memory.{Successor, Row, place, rowIn, names, stations, without, under, replace, withRoom, put}
+use Rattle.model.specs.Calls.{takeOut, empties, emptied}
+
+station-mem : (r : Row) {e : Successor} → List·Memᴰ e r → List·Memᴰ (e .station) (stations r)
+station-mem r m = Memᴰ·map (λ e. e .station) m
+
+-- Where no entry names j, j is not among the stations.
+not-named : (j : ℕ) (r : Row) → someIn (names j) r ≡ false → List·Memᴰ j (stations r) → ⊥
+unfolding names
+not-named j r h m =
+    let (e, k, p) = Memᴰ·of-map (λ e. e .station) r m in
+    eqb-false j (e .station) (none-in-at (names j) r h e k) (sym p)
+
+-- Entries kept: those under a label, and those that don't name j.
+pub under-mem : (g : Label) (r : Row) {e : Successor} → List·Memᴰ e (under g r) → List·Memᴰ e r × (g ≻ e .label)
+unfolding under
+under-mem g r m = keep-mem _ r m
+
+pub without-mem : (leaves : Successor → Bool) (r : Row) {e : Successor} → List·Memᴰ e (without leaves r) → List·Memᴰ e r × (leaves e ≡ false)
+unfolding without
+without-mem leaves r {e} m = let h = keep-mem _ r m in (h .0, not-true (leaves e) (h .1))
+
+pub without-names : (j : ℕ) (r : Row) {e : Successor} → List·Memᴰ e (without (names j) r) → e .station ≢ j
+unfolding names
+without-names j r {e} m q = eqb-false j (e .station) (without-mem (names j) r m .1) (sym q)
+
+pub keep-distinct : (f : Successor → Bool) (r : Row) → distinct (stations r) ≡ true → distinct (stations (keep f r)) ≡ true
+unfolding keep
+keep-distinct f [] d = d
+keep-distinct f (e ∷ r) d =
+    let h = keep-distinct f r (distinct-rest (e .station) (stations r) d) in
+    choose (λ z. distinct (stations z) ≡ true) (f e)
+    (λ q. distinct-cons (e .station) (stations (keep f r)) (λ m. distinct-first (e .station) (stations r) d (kept m)) h)
+    (λ q. h)
+  where
+    kept : {x : ℕ} → List·Memᴰ x (stations (keep f r)) → List·Memᴰ x (stations r)
+    kept {x} m =
+        let (y, k, p) = Memᴰ·of-map (λ e. e .station) (keep f r) m in
+        subst (λ z. List·Memᴰ z (stations r)) p (station-mem r (keep-mem f r k .0))
+
+-- An entry put into a row.
+module _ (e : Successor) where
+  replace-mem : (r : Row) {x : Successor} → List·Memᴰ x (replace e r) → (x ≡ e) ⊎ List·Memᴰ x r
+  unfolding replace
+  replace-mem [] m = absurd (List·Memᴰ·not-nil m)
+  replace-mem (y ∷ r) {x} m =
+      choose (λ z. List·Memᴰ x z → (x ≡ e) ⊎ List·Memᴰ x (y ∷ r)) (names (e .station) y)
+      (λ q k. cases (List·Memᴰ·cases-cons k) (λ p. inl p) (λ j. inr (List·Memᴰ·tail j)))
+      (λ q k. cases (List·Memᴰ·cases-cons k) (λ p. inr (List·Memᴰ·head p))
+      (λ j. cases (replace-mem r j) (λ p. inl p) (λ i. inr (List·Memᴰ·tail i)))) m
+
+  -- It names the station that it replaces.
+  replace-stations : (r : Row) → stations (replace e r) ≡ stations r
+  unfolding replace names
+  replace-stations [] = refl
+  replace-stations (y ∷ r) =
+      choose (λ z. stations z ≡ y .station ∷ stations r) (eqb (e .station) (y .station))
+      (λ q. ap (λ s. s ∷ stations r) (eqb-true (e .station) (y .station) q))
+      (λ q. ap (λ l. y .station ∷ l) (replace-stations r))
+
+  replace-length : (r : Row) → length (replace e r) ≡ length r
+  unfolding replace
+  replace-length [] = refl
+  replace-length (y ∷ r) =
+      choose (λ (z : Row). length z ≡ suc (length r)) (names (e .station) y) (λ q. refl) (λ q. ap suc (replace-length r))
+
+  module _ (r : Row) where
+    -- What holds of the row, and of the row without its first entry, holds of the row with room.
+    room-either : (P : Row → Type 0) → P r → P (tail r) → P (withRoom r)
+    unfolding withRoom
+    room-either P h k = choose P (ltb (length r) 4) (λ e. h) (λ e. k)
+
+    pub put-mem : {x : Successor} → List·Memᴰ x (put e r) → (x ≡ e) ⊎ List·Memᴰ x r
+    unfolding put
+    put-mem {x} =
+        choose (λ z. List·Memᴰ x z → (x ≡ e) ⊎ List·Memᴰ x r) (someIn (names (e .station)) r) (λ q m. replace-mem r m)
+        (λ q m. cases (List·Memᴰ·append-cases (withRoom r) m)
+        (λ k. inr (room-either (λ z. List·Memᴰ x z → List·Memᴰ x r) (λ j. j) (mem-tail r) k))
+        (λ k. inl (List·Memᴰ·eq-of-singleton k)))
+
+    room-length : length r ≤ 4 → length (withRoom r) ≤ 3
+    unfolding withRoom
+    room-length h =
+        choose (λ (z : Row). length z ≤ 3) (ltb (length r) 4) (λ q. omega (arith, ltb-true)) (λ q. length-tail r 3 h)
+
+    pub put-length : length r ≤ 4 → length (put e r) ≤ 4
+    unfolding put
+    put-length h =
+        choose (λ (z : Row). length z ≤ 4) (someIn (names (e .station)) r) {a = replace e r} {b = withRoom r ++ (e ∷ [])}
+        (λ q. omega (arith, replace-length r))
+        (λ q. simp length-append (omega (arith, room-length h)))
+
+    tail-stations : (l : Row) → stations (tail l) ≡ tail (stations l)
+    tail-stations [] = refl
+    tail-stations (x ∷ l) = refl
+
+    room-mem : {x : ℕ} → List·Memᴰ x (stations (withRoom r)) → List·Memᴰ x (stations r)
+    room-mem {x} =
+        room-either (λ z. List·Memᴰ x (stations z) → List·Memᴰ x (stations r))
+        (λ m. m) (λ m. mem-tail (stations r) (subst (List·Memᴰ x) (tail-stations r) m))
+
+    room-distinct : distinct (stations r) ≡ true → distinct (stations (withRoom r)) ≡ true
+    room-distinct d =
+        room-either (λ z. distinct (stations z) ≡ true) d (ap distinct (tail-stations r) ∙ distinct-tail (stations r) d)
+
+    pub put-distinct : distinct (stations r) ≡ true → distinct (stations (put e r)) ≡ true
+    unfolding put
+    put-distinct d =
+        choose (λ z. distinct (stations z) ≡ true) (someIn (names (e .station)) r)
+        (λ q. ap distinct (replace-stations r) ∙ d)
+        (λ q. ap distinct (map-append (λ x. x .station) (withRoom r) (e ∷ []))
+        ∙ distinct-last (stations (withRoom r)) (e .station) (λ m. not-named (e .station) r q (room-mem m)) (room-distinct d))
+
+-- Entries taken out of i's rows for the destinations below c.
+module _ (masked : ℕ → Bool) (leaves : Successor → Bool) (i : ℕ) (rows : List Row) where
+  pub takeOut-length : (c : ℕ) → length (takeOut masked leaves i c rows) ≡ length rows
+  unfolding takeOut
+  takeOut-length zero = refl
+  takeOut-length (suc t) =
+      choose (λ (z : List Row). length z ≡ length rows) (masked t)
+      (λ e. length-set (takeOut masked leaves i t rows) _ _ ∙ takeOut-length t) (λ e. takeOut-length t)
+
+  -- Every row is as it was, or is without the entries that leave.
+  pub takeOut-either : (P : Row → Type 0) (c j t : ℕ) → P (rowIn rows j t) → P (without leaves (rowIn rows j t))
+      → P (rowIn (takeOut masked leaves i c rows) j t)
+  unfolding takeOut
+  takeOut-either P zero j t old new = old
+  takeOut-either P (suc c) j t old new =
+      let h = takeOut-either P c j t old new in
+      choose (λ z. P (rowIn z j t)) (masked c)
+      (λ e. set-either P (takeOut masked leaves i c rows) (place i c) (place j t) _ []
+      (λ q. subst (λ k. P (without leaves (getD rows k []))) q new) h)
+      (λ e. h)
+
+  -- The row of a masked destination is without them.
+  pub takeOut-masked : (c t : ℕ) → i < 16 → c ≤ 16 → length rows ≡ 256 → t < c → masked t ≡ true
+      → rowIn (takeOut masked leaves i c rows) i t ≡ without leaves (rowIn rows i t)
+  unfolding takeOut
+  takeOut-masked zero t hi hc len h e = absurd (omega arith)
+  takeOut-masked (suc c) t hi hc len h e = go (against t c) (λ l. takeOut-masked c t hi (omega arith) len l e)
+    where
+      before : List Row
+      before = takeOut masked leaves i c rows
+
+      Goal : List Row → Type 0
+      Goal z = rowIn z i t ≡ without leaves (rowIn rows i t)
+
+      go : Against t c → (t < c → Goal before) → Goal (if masked c then set before (place i c) (without leaves (rowIn rows i c)) else before)
+      go (less l) ih =
+          choose Goal (masked c) (λ q. getD-set-other before (place i c) (place i t) _ [] (λ p. omega arith) ∙ ih l) (λ q. ih l)
+      go (equal q) ih =
+          rw (sym q, e) (getD-set-same (takeOut masked leaves i t rows) (place i t) _ [] (omega (arith, takeOut-length t)))
+      go (more l) ih = absurd (omega arith)
+
+-- A mask of rows emptied has no bit from c up.
+pub emptied-below : (masked : ℕ → Bool) (leaves : Successor → Bool) (i c : ℕ) (rows : List Row) → emptied masked leaves i c rows < 2 ^ c
+unfolding emptied
+emptied-below masked leaves i zero rows = omega arith
+emptied-below masked leaves i (suc t) rows = go (masked t && empties leaves (rowIn rows i t)) (emptied-below masked leaves i t rows)
+  where
+    go : (b : Bool) → emptied masked leaves i t rows < 2 ^ t → emptied masked leaves i t rows + (if b then 2 ^ t else 0) < 2 ^ suc t
+    go true h = omega arith
+    go false h = omega arith

@@ -1,0 +1,4 @@
+pub mod Memory
+pub mod Calls
+pub mod Walks
+pub mod Sample

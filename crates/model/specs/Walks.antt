@@ -1,0 +1,59 @@
+-- Walks, and the claim of demand 3 (01, "The list in demand 3").
+use Prim.Native.Nat.{ℕ, _-_, _≤_, _<_}
+use mathlib.Core.Path.{_≡_}
+use mathlib.Core.Logic.{_≢_, _↔_, _⊎_}
+use mathlib.Core.Bool.{true}
+use mathlib.Core.List.{List, [], _∷_, List·Memᴰ}
+use lib.ListN.{length}
+use Rattle.base.specs.Lists.{distinct}
+use Rattle.label.specs.Label.{_≻_}
+use Rattle.model.specs.Memory.{Network, labelAt, rowAt, stations}
+use Rattle.model.specs.Calls.{Call, Effect, accepted, opening, run, nextOf, trace}
+
+-- "A walk from a for t .. is a chain of stations with a first, each next one taken from the row for t of the one before. It may stop anywhere
+-- and must stop at an empty row". The list holds the stations after a.
+abbrev pub Walk : Network → ℕ → ℕ → List ℕ → Type 0
+Walk net a t [] = Unit {0}
+Walk net a t (b ∷ w) = List·Memᴰ b (stations (rowAt net a t)) × Walk net b t w
+
+-- "its hops are its stations less one".
+abbrev pub hopsOf : List ℕ → ℕ
+hopsOf chain = length chain - 1
+
+-- "A hop goes lower if the label for t held at the station left is above the one held at the station reached." Each hop does.
+abbrev pub GoesLower : Network → ℕ → ℕ → List ℕ → Type 0
+GoesLower net a t [] = Unit {0}
+GoesLower net a t (b ∷ w) = (labelAt net a t ≻ labelAt net b t) × GoesLower net b t w
+
+-- The station at which a walk ends.
+abbrev pub endOf : ℕ → List ℕ → ℕ
+endOf a [] = a
+endOf a (b ∷ w) = endOf b w
+
+-- "the tracer has the one through the entries that the Trace step above takes, until that step stops".
+abbrev pub TracersWalk : Network → ℕ → ℕ → List ℕ → Type 0
+TracersWalk net a t [] = (a ≡ t) ⊎ (rowAt net a t ≡ [])
+TracersWalk net a t (b ∷ w) = (a ≢ t) × (rowAt net a t ≢ []) × (b ≡ nextOf (rowAt net a t)) × TracersWalk net b t w
+
+-- What demand 3 asks of the walks from a for t.
+pub record WalksEnd (net : Network) (a t : ℕ) : Type 0 where
+  -- "The rival has any walk": "each hop .. goes to a strictly lower label, no station is met twice, the walk ends within n − 1 hops".
+  pub lower : (w : List ℕ) → Walk net a t w → GoesLower net a t w
+  pub once : (w : List ℕ) → Walk net a t w → distinct (a ∷ w) ≡ true
+  pub within : (w : List ℕ) → Walk net a t w → hopsOf (a ∷ w) ≤ net .n - 1
+  -- The tracer has one walk of its own, and it is one of those.
+  pub path : List ℕ
+  pub tracers : TracersWalk net a t path
+  pub only-path : (w : List ℕ) → TracersWalk net a t w → w ≡ path
+  pub walk : Walk net a t path
+  -- "the tracer answers 131 or 132 and nothing else, exactly as its walk ends, and its hop count is true".
+  pub arrives : (trace net a t .answer ≡ 131) ↔ (endOf a path ≡ t)
+  pub stops : (trace net a t .answer ≡ 132) ↔ ((endOf a path ≢ t) × (rowAt net (endOf a path) t ≡ []))
+  pub answers : (trace net a t .answer ≡ 131) ⊎ (trace net a t .answer ≡ 132)
+  pub hops : trace net a t .hops ≡ hopsOf (a ∷ path)
+
+-- Demand 3, one claim about the whole list: from every accepted opening, after every list of calls, for every destination t and every other station a.
+unfoldable pub LoopFree : Type 0
+LoopFree = (n start : ℕ) (opened : Effect) → opening n start ≡ accepted opened
+    → (calls : List Call) (net : Network) → net ≡ run calls (opened .net)
+    → (a t : ℕ) → a < net .n → t < net .n → a ≢ t → WalksEnd net a t
