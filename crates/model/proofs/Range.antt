@@ -16,7 +16,7 @@ use Rattle.label.specs.Label.{inRange}
 use Rattle.model.specs.Memory.{Successor, Row, Record, Body, request, reply, error, other, Packet, Network}
 use Rattle.model.specs.Memory.{labelAt, rowAt, recordAt, soughtAt, names, stations, airLimit}
 use Rattle.model.specs.Memory.{successorInRange, rowInRange, recordInRange, ownInRange, cellInRange, placeInRange, stationInRange}
-use Rattle.model.specs.Memory.{headInRange, bodyInRange, packetInRange, airInRange, memoryInRange}
+use Rattle.model.specs.Memory.{headInRange, bodyInRange, packetInRange, airInRange, sizeInRange, memoryInRange}
 use Rattle.model.proofs.Invariant.{SuccessorOk, CellOk, HeadOk, BodyOk, PacketOk, RecordOk, Good}
 
 -- The tables have their sizes, as the arrays that stand for them do.
@@ -79,7 +79,7 @@ packet-passes {n = n} p o =
     (negates (ne-eqb (p .sender) (p .receiver) (o .apart)))) (body-passes n (p .body) (o .body))
 
 pub kept-in-range : {Made : Type 0} (net : Network) → Kept Made net → memoryInRange net ≡ true
-unfolding memoryInRange stationInRange airInRange
+unfolding memoryInRange sizeInRange stationInRange airInRange
 kept-in-range net k =
     let n = net .n in
     let ok = k .good in
@@ -174,7 +174,7 @@ packet-tells {n} p h =
 module _ (net : Network) (h : memoryInRange net ≡ true) where
   memory-parts : (leb 2 (net .n) ≡ true) × (leb (net .n) 16 ≡ true) × (allBelow (net .n) (stationInRange net) ≡ true)
       × (leb (length (net .air)) airLimit ≡ true) × (allIn (packetInRange (net .n)) (net .air) ≡ true)
-  unfolding memoryInRange airInRange
+  unfolding memoryInRange sizeInRange airInRange
   memory-parts =
       let n = net .n in
       let air = allIn (packetInRange n) (net .air) in

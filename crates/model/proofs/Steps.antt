@@ -4,16 +4,16 @@ use mathlib.Core.Path.{_≡_, refl, subst}
 use mathlib.Core.Bool.{Bool, true, false, not, _||_}
 use mathlib.Core.List.{List, [], _∷_}
 use lib.ListN.{length, set, length-append, length-take, length-drop}
-use lib.Dec.{ltb, leb, eqb}
+use lib.Dec.{leb, eqb}
 use native.Mathlib.Omega.{arith}
-use borrow.Author.Tests.{ltb-false, leb-false, eqb-false, not-false}
-use Rattle.base.proofs.Flags.{neither, choose}
+use borrow.Author.Tests.{ltb-false, leb-true, leb-false, eqb-false, not-false}
+use Rattle.base.proofs.Flags.{both, neither, choose}
 use Rattle.base.proofs.Lists.{mem-at}
 use Rattle.model.specs.Memory.{Network, zeroPacket, setLink, setRow, setActive}
 use Rattle.model.specs.Memory.{setRows, setLinks, setNumbers, setSoughts, setActives, setAir}
-use Rattle.model.specs.Memory.{fresh, memoryInRange}
+use Rattle.model.specs.Memory.{fresh, sizeInRange, memoryInRange}
 use Rattle.model.specs.Calls.{Call, Open, Up, Down, Solicit, GiveUp, Expire, Deliver, Lose, Duplicate}
-use Rattle.model.specs.Calls.{Effect, effect, Result, refused, accepted, after, refuse_when_otherwise_, limited, notPair}
+use Rattle.model.specs.Calls.{Effect, effect, Result, refused, accepted, after, refuse_when_otherwise_, limited, notStation, notPair, notPacket}
 use Rattle.model.specs.Calls.{solicit, removePacket, opening, step, run}
 use Rattle.model.proofs.Invariant.{Good, good-numbers, good-actives, good-row, good-sought, cell-empty}
 use Rattle.model.proofs.Range.{Sized, Kept, kept-in-range, in-range-kept}
@@ -48,12 +48,13 @@ good-solicit a t net ok ha ht =
     good-sending _ (good-actives _ (good-sought _ (good-numbers net ok _) a t ht) _) 0 _
     (copies-ok net a ha _ (record { source-below = ha; numbered = omega arith; destination-below = ht; ranged = ok .tables .cell a t ha ht .ranged }) tt)
 
-opening-kept : {Made : Type 0} (n start : ℕ) → (ltb n 2 || ltb 16 n || eqb start 0) ≡ false → Kept Made (fresh n start)
+opening-kept : {Made : Type 0} (n start : ℕ) → (not (sizeInRange n) || eqb start 0) ≡ false → Kept Made (fresh n start)
+unfolding sizeInRange
 opening-kept n start e =
-    let w = neither (ltb n 2 || ltb 16 n) (eqb start 0) e in
-    let x = neither (ltb n 2) (ltb 16 n) (w .0) in
+    let w = neither (not (sizeInRange n)) (eqb start 0) e in
+    let x = both (leb 2 n) (leb n 16) (not-false (sizeInRange n) (w .0)) in
     let z = eqb-false start 0 (w .1) in
-    fresh-kept n start (ltb-false n 2 (x .0)) (ltb-false 16 n (x .1)) (omega (arith, z))
+    fresh-kept n start (leb-true 2 n (x .0)) (leb-true n 16 (x .1)) (omega (arith, z))
 
 -- A call turned down leaves the network; the tests that it passed tell what the rest may use.
 module _ {Made : Type 0} (net : Network) (kept : Kept Made net) where
@@ -72,14 +73,15 @@ module _ {Made : Type 0} (net : Network) (kept : Kept Made net) where
   -- Tests 1 and 2, and tests 1 and 6.
   kept-pair : (a b : ℕ) (r : Result) → (a < net .n → b < net .n → Kept Made (after net r))
       → Kept Made (after net (refuse 1 when not (memoryInRange net) otherwise refuse 2 when notPair net a b otherwise r))
-  unfolding notPair
+  unfolding notPair notStation
   kept-pair a b r h = kept-refuse 1 _ _ (λ e. kept-refuse 2 _ r (λ q.
-      let w = neither (leb (net .n) a || leb (net .n) b) (eqb a b) q in
-      let x = neither (leb (net .n) a) (leb (net .n) b) (w .0) in
+      let w = neither (notStation net a || notStation net b) (eqb a b) q in
+      let x = neither (notStation net a) (notStation net b) (w .0) in
       h (leb-false (net .n) a (x .0)) (leb-false (net .n) b (x .1))))
 
   kept-packet : (k : ℕ) (r : Result) → (k < length (net .air) → Kept Made (after net r))
-      → Kept Made (after net (refuse 1 when not (memoryInRange net) otherwise refuse 6 when leb (length (net .air)) k otherwise r))
+      → Kept Made (after net (refuse 1 when not (memoryInRange net) otherwise refuse 6 when notPacket net k otherwise r))
+  unfolding notPacket
   kept-packet k r h = kept-refuse 1 _ _ (λ e. kept-refuse 6 _ r (λ q. h (leb-false (length (net .air)) k q)))
 
 module _ {Made : Type 0} (net : Network) (kept : Kept Made net) where
@@ -119,7 +121,7 @@ not-turned-down k false r e h = (refl, h)
 pub opened-kept : {Made : Type 0} (n start : ℕ) (e : Effect) → opening n start ≡ accepted e → Kept Made (e .net)
 unfolding opening
 opened-kept {Made} n start e h =
-    let w = not-turned-down 1 (ltb n 2 || ltb 16 n || eqb start 0) (accepted (effect 0 0 (fresh n start))) e h in
+    let w = not-turned-down 1 (not (sizeInRange n) || eqb start 0) (accepted (effect 0 0 (fresh n start))) e h in
     let same : effect 0 0 (fresh n start) ≡ e = cc in
     subst (λ z. Kept Made (z .net)) same (opening-kept n start (w .0))
 

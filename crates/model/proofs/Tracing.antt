@@ -6,7 +6,7 @@ use mathlib.Core.Bool.{true, false}
 use borrow.Author.Tests.{eq-eqb, ne-eqb, lt-leb}
 use Rattle.base.specs.Lists.{isEmpty}
 use Rattle.model.specs.Memory.{Network, rowAt, memoryInRange}
-use Rattle.model.specs.Calls.{notPair, traced, nextOf, hopLimit, follow, trace}
+use Rattle.model.specs.Calls.{notStation, notPair, traced, nextOf, hopLimit, follow, trace}
 
 module _ (net : Network) (a t : ℕ) where
   pub follow-arrives : (left made : ℕ) → a ≡ t → follow left made net a t ≡ traced 131 made
@@ -37,5 +37,5 @@ module _ (net : Network) (a t : ℕ) where
   trace-no-pair h k = simp (h, k)
 
   pub trace-follows : memoryInRange net ≡ true → a < net .n → t < net .n → a ≢ t → trace net a t ≡ follow (hopLimit net) 0 net a t
-  unfolding trace notPair
+  unfolding trace notPair notStation
   trace-follows h ha ht e = simp (h, lt-leb (net .n) a ha, lt-leb (net .n) t ht, ne-eqb a t e)

@@ -101,27 +101,25 @@ module _ (net : Network) (t : ℕ) where
         ends = g .ends;
       })
 
+  -- At the destination, at an empty row, or at another station.
+  by-station : (left made a : ℕ) → (a ≢ t → isEmpty (rowAt net a t) ≡ false → Followed net a t made (follow left made net a t))
+      → Followed net a t made (follow left made net a t)
+  by-station left made a rest = go (eqb a t) refl (isEmpty (rowAt net a t)) refl
+    where
+      go : (x : Bool) → eqb a t ≡ x → (y : Bool) → isEmpty (rowAt net a t) ≡ y → Followed net a t made (follow left made net a t)
+      go true e y q = at-destination left made a (eqb-true a t e)
+      go false e true q = at-empty-row left made a (eqb-false a t e) q
+      go false e false q = rest (eqb-false a t e) q
+
   -- Where no walk from a has more hops than the tracer may still make, it never runs out of them.
   followed : (left made a : ℕ) → ((w : List ℕ) → Walk net a t w → length w ≤ left) → Followed net a t made (follow left made net a t)
-  followed zero made a short = go (eqb a t) refl (isEmpty (rowAt net a t)) refl
-    where
-      go : (x : Bool) → eqb a t ≡ x → (y : Bool) → isEmpty (rowAt net a t) ≡ y → Followed net a t made (follow zero made net a t)
-      go true e y q = at-destination zero made a (eqb-true a t e)
-      go false e true q = at-empty-row zero made a (eqb-false a t e) q
-      go false e false q = let h = short (nextOf (rowAt net a t) ∷ []) (next-mem (rowAt net a t) q, tt) in absurd (omega arith)
-  followed (suc left) made a short =
-      go (eqb a t) refl (isEmpty (rowAt net a t)) refl
-      (λ q. followed left (made + 1) (nextOf (rowAt net a t))
-      (λ w k. let h = short (nextOf (rowAt net a t) ∷ w) (next-mem (rowAt net a t) q, k) in omega arith))
-    where
-      Next : Type 0
-      Next = Followed net (nextOf (rowAt net a t)) t (made + 1) (follow left (made + 1) net (nextOf (rowAt net a t)) t)
-
-      go : (x : Bool) → eqb a t ≡ x → (y : Bool) → isEmpty (rowAt net a t) ≡ y → (isEmpty (rowAt net a t) ≡ false → Next)
-          → Followed net a t made (follow (suc left) made net a t)
-      go true e y q next = at-destination (suc left) made a (eqb-true a t e)
-      go false e true q next = at-empty-row (suc left) made a (eqb-false a t e) q
-      go false e false q next = after-hop left made a (eqb-false a t e) q (next q)
+  followed zero made a short = by-station zero made a (λ e q.
+      let h = short (nextOf (rowAt net a t) ∷ []) (next-mem (rowAt net a t) q, tt) in
+      absurd (omega arith))
+  followed (suc left) made a short = by-station (suc left) made a (λ e q. after-hop left made a e q
+      (followed left (made + 1) (nextOf (rowAt net a t)) (λ w k.
+      let h = short (nextOf (rowAt net a t) ∷ w) (next-mem (rowAt net a t) q, k) in
+      omega arith)))
 
   -- The tracer has one walk.
   one-walk : (v w : List ℕ) (a : ℕ) → TracersWalk net a t v → TracersWalk net a t w → w ≡ v

@@ -11,7 +11,7 @@ use Rattle.label.specs.Label.{label, unassigned, isUnassigned, above, Outcome, 
 use Rattle.model.specs.Memory.{Successor, Row, Record, Request, Reply, Body, request, reply, error, other, Packet, Network}
 use Rattle.model.specs.Memory.{place, rowIn, labelAt, rowAt, recordAt, linkUp, numberAt, soughtAt, isActive, packetAt}
 use Rattle.model.specs.Memory.{setLabel, setRows, setRow, setRecord, setLink, setNumber, setSought, setActive, setAir}
-use Rattle.model.specs.Memory.{fresh, names, without, under, put, airLimit, memoryInRange}
+use Rattle.model.specs.Memory.{fresh, names, without, under, put, airLimit, sizeInRange, memoryInRange}
 
 -- The calls of 01's "The list in demand 3", "with any arguments".
 pub data Call : Type 0 where
@@ -53,8 +53,15 @@ limited e =
     accepted e
 
 -- 2: "a station ≥ n, or the two equal".
+unfoldable pub notStation : Network → ℕ → Bool
+notStation net a = leb (net .n) a
+
 unfoldable pub notPair : Network → ℕ → ℕ → Bool
-notPair net a b = leb (net .n) a || leb (net .n) b || eqb a b
+notPair net a b = notStation net a || notStation net b || eqb a b
+
+-- 6: "k ≥ packets in the air".
+unfoldable pub notPacket : Network → ℕ → Bool
+notPacket net k = leb (length (net .air)) k
 
 -- Sending.
 
@@ -289,7 +296,7 @@ deliver k net =
 -- Open: "fresh memory. It reads no earlier memory and tests 1 for n, start and, at the console, the slice's length only."
 unfoldable pub opening : ℕ → ℕ → Result
 opening n start =
-    refuse 1 when ltb n 2 || ltb 16 n || eqb start 0 otherwise
+    refuse 1 when not (sizeInRange n) || eqb start 0 otherwise
     accepted (effect 0 0 (fresh n start))
 
 unfoldable pub step : Call → Network → Result
@@ -312,7 +319,7 @@ step (Solicit a t) net =
     limited (solicit a t net)
 step (GiveUp a) net =
     refuse 1 when not (memoryInRange net) otherwise
-    refuse 2 when leb (net .n) a otherwise
+    refuse 2 when notStation net a otherwise
     refuse 5 when not (isActive net a) otherwise
     accepted (effect 0 0 (setActive a false net))
 step (Expire a t) net =
@@ -321,15 +328,15 @@ step (Expire a t) net =
     accepted (effect 0 0 (setRow a t [] net))
 step (Deliver k) net =
     refuse 1 when not (memoryInRange net) otherwise
-    refuse 6 when leb (length (net .air)) k otherwise
+    refuse 6 when notPacket net k otherwise
     limited (deliver k net)
 step (Lose k) net =
     refuse 1 when not (memoryInRange net) otherwise
-    refuse 6 when leb (length (net .air)) k otherwise
+    refuse 6 when notPacket net k otherwise
     accepted (effect 0 0 (removePacket k net))
 step (Duplicate k) net =
     refuse 1 when not (memoryInRange net) otherwise
-    refuse 6 when leb (length (net .air)) k otherwise
+    refuse 6 when notPacket net k otherwise
     limited (effect 0 0 (send (packetAt net k ∷ []) net))
 
 -- "Each call gets the memory that the one before it returned or left".

@@ -271,6 +271,9 @@ stationInRange net i = ltb (soughtAt net i) (net .n) && allBelow (net .n) (place
 unfoldable pub airInRange : ℕ → List Packet → Bool
 airInRange n air = leb (length air) airLimit && allIn (packetInRange n) air
 
+-- "n is 2..16".
+unfoldable pub sizeInRange : ℕ → Bool
+sizeInRange n = leb 2 n && leb n 16
+
 unfoldable pub memoryInRange : Network → Bool
-memoryInRange net =
-    leb 2 (net .n) && leb (net .n) 16 && allBelow (net .n) (stationInRange net) && airInRange (net .n) (net .air)
+memoryInRange net = sizeInRange (net .n) && allBelow (net .n) (stationInRange net) && airInRange (net .n) (net .air)

@@ -12,8 +12,8 @@ use Rattle.model.specs.Memory.{Network, zeroLabel, zeroRecord, zeroPacke
 use Rattle.model.specs.Memory.{setLabels, setRows, setRecords, setLinks, setNumbers, setSoughts, setActives, setAir, freshLabels, freshRecord, fresh}
 use Rattle.model.specs.Memory.{names, stations, without, under, replace, withRoom, put}
 use Rattle.model.specs.Memory.{successorInRange, rowInRange, recordInRange, ownInRange, cellInRange, stationInRange}
-use Rattle.model.specs.Memory.{headInRange, bodyInRange, packetInRange, airInRange, memoryInRange}
-use Rattle.model.specs.Calls.{Call, Up, Solicit, Deliver, Lose, Result, refused, accepted, after, refuse_when_otherwise_, limited, notPair, step}
+use Rattle.model.specs.Memory.{headInRange, bodyInRange, packetInRange, airInRange, sizeInRange, memoryInRange}
+use Rattle.model.specs.Calls.{Call, Up, Solicit, Deliver, Lose, Result, refused, accepted, after, refuse_when_otherwise_, limited, notStation, notPair, notPacket, step}
 use Rattle.model.specs.Calls.{send, sending, neighbours, copies, solicit, removePacket, receive, deliver}
 use Rattle.model.specs.Calls.{recordOf, markPassed, replyTo, resets, atDestination, canReply, onwardLabel, onwardReset, onward, engage, onRequest}
 use Rattle.model.specs.Calls.{matches, cachedAt, adopt, settle, passesOn, passOn, onOutcome, onReply, nextOf, follow, trace}
@@ -89,7 +89,7 @@ printed = record {
 }
 
 pub prints : printout script (fresh 3 1) ≡ printed
-unfolding printout labelLines script printed step after refuse_when_otherwise_ limited notPair memoryInRange stationInRange airInRange
+unfolding printout labelLines script printed step after refuse_when_otherwise_ limited notStation notPair notPacket sizeInRange memoryInRange stationInRange airInRange
     cellInRange rowInRange recordInRange ownInRange headInRange bodyInRange packetInRange successorInRange allBelow below allIn someIn keep
     isEmpty distinct unassigned isUnassigned inRange above fitting next split newLabel zeroLabel zeroRecord zeroPacket linkIn setLabels
     setRows setRecords setLinks setNumbers setSoughts setActives setAir freshLabels freshRecord fresh names without under replace withRoom
