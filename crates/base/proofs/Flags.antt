@@ -43,6 +43,12 @@ passes h k = simp (h, k)
 pub negates : {t : Bool} → t ≡ false → not t ≡ true
 negates h = simp h
 
+-- Two tests that pass in the same cases.
+pub iff : (a b : Bool) → (a ≡ true → b ≡ true) → (b ≡ true → a ≡ true) → a ≡ b
+iff true b f g = sym (f refl)
+iff false true f g = g refl
+iff false false f g = refl
+
 -- What holds of either branch holds of the choice.
 pub choose : {A : Type 0} (P : A → Type 0) (t : Bool) {a b : A} → (t ≡ true → P a) → (t ≡ false → P b) → P (if t then a else b)
 choose P true f g = f refl

@@ -2,16 +2,16 @@
 use Prim.Native.Nat.{ℕ, zero, suc, _≤_, _<_}
 use mathlib.Core.Path.{_≡_, refl, sym, ap, subst, _∙_}
 use mathlib.Core.Logic.{_≢_}
-use mathlib.Core.Bool.{Bool, true, false, not}
-use mathlib.Core.List.{List, [], _∷_, _++_, tail, List·Memᴰ, List·Memᴰ·head, List·Memᴰ·tail, List·Memᴰ·not-nil}
+use mathlib.Core.Bool.{Bool, true, false, not, _&&_, _||_, or-false, or-assoc}
+use mathlib.Core.List.{List, [], _∷_, _++_, map, tail, List·Memᴰ, List·Memᴰ·head, List·Memᴰ·tail, List·Memᴰ·not-nil}
 use mathlib.Core.List.{List·Memᴰ·cases-cons, List·Memᴰ·append-cases, List·Memᴰ·eq-of-singleton}
-use lib.ListN.{length, getD, set, take, drop}
+use lib.ListN.{length, getD, set, take, drop, replicate, length-map}
 use lib.Dec.{eqb}
 use native.Mathlib.Omega.{arith}
-use borrow.Author.Tests.{eqb-true, eqb-false, ne-eqb, not-true}
+use borrow.Author.Tests.{eqb-true, eqb-false, eq-eqb, ne-eqb, not-true}
 use Rattle.base.specs.Choice.{if_then_else_}
 use Rattle.base.specs.Lists.{allBelow, below, allIn, someIn, keep, isEmpty, distinct}
-use Rattle.base.proofs.Flags.{clash, both, neither, passes, negates, choose, cases, Against, less, equal, more, against}
+use Rattle.base.proofs.Flags.{clash, both, neither, passes, negates, iff, choose, cases, Against, less, equal, more, against}
 
 -- Every number below n passes.
 pub all-below : (n : ℕ) (f : ℕ → Bool) → ((i : ℕ) → i < n → f i ≡ true) → allBelow n f ≡ true
@@ -81,6 +81,26 @@ module _ {A : Type 0} where
   unfolding isEmpty
   filled-not-nil l e q = clash (ap isEmpty q) e
 
+  -- An empty list has no element.
+  pub empty-length : (l : List A) → isEmpty l ≡ eqb (length l) 0
+  unfolding isEmpty
+  empty-length [] = refl
+  empty-length (x ∷ l) = sym (ne-eqb (suc (length l)) 0 (λ e. omega arith))
+
+-- The length of a list from that of its image: what is known of an array of structs is the length of its image.
+pub unmapped : {A B : Type 0} (f : A → B) (l : List A) (n : ℕ) → length (map f l) ≡ n → length l ≡ n
+unmapped f l n e = sym (length-map l f) ∙ e
+
+-- Every element changed: of a list with one element written, and of a list of one value.
+pub map-set : {A B : Type 0} (f : A → B) (l : List A) (k : ℕ) (x : A) → map f (set l k x) ≡ set (map f l) k (f x)
+map-set f [] k x = refl
+map-set f (y ∷ l) zero x = refl
+map-set f (y ∷ l) (suc k) x = ap (λ z. f y ∷ z) (map-set f l k x)
+
+pub map-replicate : {A B : Type 0} (f : A → B) (c : ℕ) (x : A) → map f (replicate c x) ≡ replicate c (f x)
+map-replicate f zero x = refl
+map-replicate f (suc c) x = ap (λ z. f x ∷ z) (map-replicate f c x)
+
 module _ {A : Type 0} (f : A → Bool) where
   -- Every element passes.
   pub all-in : (l : List A) → ((x : A) → List·Memᴰ x l → f x ≡ true) → allIn f l ≡ true
@@ -122,6 +142,37 @@ module _ {A : Type 0} (f : A → Bool) where
       let h = keep-length l in
       choose (λ (z : List A). length z ≤ suc (length l)) (f y) (λ e. omega arith) (λ e. omega arith)
 
+-- One more element.
+some-more : {A : Type 0} (t : A → Bool) (l : List A) (x : A) → someIn t (l ++ (x ∷ [])) ≡ someIn t l || t x
+unfolding someIn
+some-more t [] x = or-false (t x)
+some-more t (y ∷ l) x = ap (λ (b : Bool). t y || b) (some-more t l x) ∙ sym (or-assoc (t y) (someIn t l) (t x))
+
+eqb-sym : (a b : ℕ) → eqb a b ≡ eqb b a
+eqb-sym a b = iff _ _ (λ e. eq-eqb b a (sym (eqb-true a b e))) (λ e. eq-eqb a b (sym (eqb-true b a e)))
+
+-- Where the elements that pass leave, the list is as long as before if none passes, and shorter if one does.
+module _ {A : Type 0} (f : A → Bool) where
+  pub none-left : (l : List A) → length (keep (λ x. not (f x)) l) ≡ length l → someIn f l ≡ false
+  unfolding keep someIn
+  none-left [] e = refl
+  none-left (x ∷ l) e = go (f x) (λ q. none-left l q) e
+    where
+      go : (b : Bool) → (length (keep (λ x. not (f x)) l) ≡ length l → someIn f l ≡ false)
+          → length (if not b then x ∷ keep (λ x. not (f x)) l else keep (λ x. not (f x)) l) ≡ suc (length l) → b || someIn f l ≡ false
+      go true ih q = let h = keep-length (λ x. not (f x)) l in absurd (omega arith)
+      go false ih q = ih (omega arith)
+
+  pub some-left : (l : List A) → length (keep (λ x. not (f x)) l) ≢ length l → someIn f l ≡ true
+  unfolding keep someIn
+  some-left [] n = absurd (n refl)
+  some-left (x ∷ l) n = go (f x) (λ q. some-left l q) n
+    where
+      go : (b : Bool) → (length (keep (λ x. not (f x)) l) ≢ length l → someIn f l ≡ true)
+          → length (if not b then x ∷ keep (λ x. not (f x)) l else keep (λ x. not (f x)) l) ≢ suc (length l) → b || someIn f l ≡ true
+      go true ih q = refl
+      go false ih q = ih (λ e. q (ap suc e))
+
 -- A list in which no number stands twice, as the absence of its first from the rest.
 pub distinct-cons : (x : ℕ) (l : List ℕ) → (List·Memᴰ x l → ⊥) → distinct l ≡ true → distinct (x ∷ l) ≡ true
 unfolding distinct
@@ -139,12 +190,22 @@ pub distinct-tail : (l : List ℕ) → distinct l ≡ true → distinct (tail l)
 distinct-tail [] d = d
 distinct-tail (x ∷ l) d = distinct-rest x l d
 
+-- The same with its last.
+pub distinct-more : (l : List ℕ) (x : ℕ) → distinct (l ++ (x ∷ [])) ≡ distinct l && not (someIn (eqb x) l)
+unfolding distinct someIn
+distinct-more [] x = refl
+distinct-more (y ∷ l) x =
+    rw (distinct-more l x, some-more (eqb y) l x, eqb-sym y x) (shuffle (someIn (eqb y) l) (eqb x y) (distinct l) (someIn (eqb x) l))
+  where
+    shuffle : (a b c d : Bool) → not (a || b) && (c && not d) ≡ (not a && c) && not (b || d)
+    shuffle true b c d = refl
+    shuffle false true true d = refl
+    shuffle false true false d = refl
+    shuffle false false c d = refl
+
 pub distinct-last : (l : List ℕ) (x : ℕ) → (List·Memᴰ x l → ⊥) → distinct l ≡ true → distinct (l ++ (x ∷ [])) ≡ true
-distinct-last [] x h d = distinct-cons x [] (λ m. List·Memᴰ·not-nil m) d
-distinct-last (y ∷ l) x h d =
-    distinct-cons y (l ++ (x ∷ []))
-    (λ m. cases (List·Memᴰ·append-cases l m) (distinct-first y l d) (λ k. h (List·Memᴰ·head (sym (List·Memᴰ·eq-of-singleton k)))))
-    (distinct-last l x (λ m. h (List·Memᴰ·tail m)) (distinct-rest y l d))
+distinct-last l x h d =
+    distinct-more l x ∙ passes d (negates (none-in (eqb x) l (λ y m. ne-eqb x y (λ e. h (subst (λ z. List·Memᴰ z l) (sym e) m)))))
 
 -- At most n numbers stand below n, if none stands twice.
 module _ (n : ℕ) where

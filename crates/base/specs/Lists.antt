@@ -37,6 +37,16 @@ unfoldable pub isEmpty : {A : Type 0} → List A → Bool
 isEmpty [] = true
 isEmpty (x ∷ l) = false
 
+-- The values of f at the numbers below c, ascending.
+unfoldable pub tabulate : {A : Type 0} → ℕ → (ℕ → A) → List A
+tabulate zero f = []
+tabulate (suc c) f = tabulate c f ++ (f c ∷ [])
+
+-- The place of the first element that passes, or the length where none does.
+unfoldable pub indexOf : {A : Type 0} → (A → Bool) → List A → ℕ
+indexOf f [] = 0
+indexOf f (x ∷ l) = if f x then 0 else suc (indexOf f l)
+
 -- No number stands twice.
 unfoldable pub distinct : List ℕ → Bool
 distinct [] = true

@@ -3,6 +3,7 @@ pub mod Links
 pub mod Invariant
 pub mod Range
 pub mod Fresh
+pub mod Refusals
 pub mod Sending
 pub mod Delivery
 pub mod Steps

@@ -8,12 +8,21 @@ use lib.ListN.{getD, set}
 use lib.Seq.{getD-set-other}
 use lib.Dec.{eqb}
 use native.Mathlib.Omega.{arith}
-use borrow.Author.Tests.{eqb-true, eqb-false, ne-eqb, not-true}
+use borrow.Author.Tests.{eqb-true, eqb-false, ne-eqb, not-true, eq-eqb}
 use Rattle.base.proofs.Flags.{both, passes, negates}
 use Rattle.base.proofs.Lists.{set-either}
 use Rattle.model.specs.Memory.{pairPlace, linkIn}
 
 module _ (l : List Bool) (a b : ℕ) where
+  -- No station has a link to itself; two stations have theirs at their place.
+  pub link-self : a ≡ b → linkIn l a b ≡ false
+  unfolding linkIn
+  link-self e = rw (eq-eqb a b e)
+
+  pub link-pair : a ≢ b → linkIn l a b ≡ getD l (pairPlace a b) false
+  unfolding linkIn
+  link-pair h = rw (ne-eqb a b h)
+
   -- An up link joins two stations, and its place says that it is up.
   link-parts : linkIn l a b ≡ true → (not (eqb a b) ≡ true) × (getD l (pairPlace a b) false ≡ true)
   unfolding linkIn

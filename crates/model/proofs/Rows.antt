@@ -10,9 +10,9 @@ use lib.ListN.{length, getD, set, length-append, length-set}
 use lib.Seq.{getD-set-same, getD-set-other}
 use lib.Dec.{ltb, eqb}
 use native.Mathlib.Omega.{arith}
-use borrow.Author.Tests.{ltb-true, eqb-true, eqb-false, not-true}
+use borrow.Author.Tests.{lt-ltb, le-ltb, ltb-true, eqb-true, eqb-false, not-true}
 use Rattle.base.specs.Choice.{if_then_else_}
-use Rattle.base.specs.Lists.{someIn, keep, distinct}
+use Rattle.base.specs.Lists.{someIn, keep, indexOf, distinct}
 use Rattle.base.proofs.Flags.{choose, cases, Against, less, equal, more, against}
 use Rattle.base.proofs.Lists.{none-in-at, keep-mem, mem-tail, length-tail, set-either}
 use Rattle.base.proofs.Lists.{distinct-cons, distinct-first, distinct-rest, distinct-tail, distinct-last}
@@ -58,6 +58,39 @@ keep-distinct f (e ∷ r) d =
         let (y, k, p) = Memᴰ·of-map (λ e. e .station) (keep f r) m in
         subst (λ z. List·Memᴰ z (stations r)) p (station-mem r (keep-mem f r k .0))
 
+-- A row with room for one more.
+module _ (r : Row) where
+  -- What holds of the row, and of the row without its first entry, holds of the row with room.
+  room-either : (P : Row → Type 0) → P r → P (tail r) → P (withRoom r)
+  unfolding withRoom
+  room-either P h k = choose P (ltb (length r) 4) (λ e. h) (λ e. k)
+
+  pub room-same : length r < 4 → withRoom r ≡ r
+  unfolding withRoom
+  room-same h = rw (lt-ltb (length r) 4 h)
+
+  pub room-full : 4 ≤ length r → withRoom r ≡ tail r
+  unfolding withRoom
+  room-full h = rw (le-ltb (length r) 4 h)
+
+  pub room-length : length r ≤ 4 → length (withRoom r) ≤ 3
+  unfolding withRoom
+  room-length h =
+      choose (λ (z : Row). length z ≤ 3) (ltb (length r) 4) (λ q. omega (arith, ltb-true)) (λ q. length-tail r 3 h)
+
+  tail-stations : (l : Row) → stations (tail l) ≡ tail (stations l)
+  tail-stations [] = refl
+  tail-stations (x ∷ l) = refl
+
+  room-mem : {x : ℕ} → List·Memᴰ x (stations (withRoom r)) → List·Memᴰ x (stations r)
+  room-mem {x} =
+      room-either (λ z. List·Memᴰ x (stations z) → List·Memᴰ x (stations r))
+      (λ m. m) (λ m. mem-tail (stations r) (subst (List·Memᴰ x) (tail-stations r) m))
+
+  room-distinct : distinct (stations r) ≡ true → distinct (stations (withRoom r)) ≡ true
+  room-distinct d =
+      room-either (λ z. distinct (stations z) ≡ true) d (ap distinct (tail-stations r) ∙ distinct-tail (stations r) d)
+
 -- An entry put into a row.
 module _ (e : Successor) where
   replace-mem : (r : Row) {x : Successor} → List·Memᴰ x (replace e r) → (x ≡ e) ⊎ List·Memᴰ x r
@@ -84,44 +117,40 @@ module _ (e : Successor) where
   replace-length (y ∷ r) =
       choose (λ (z : Row). length z ≡ suc (length r)) (names (e .station) y) (λ q. refl) (λ q. ap suc (replace-length r))
 
+  -- Its place is that of the first entry that names the station.
+  replace-set : (r : Row) → replace e r ≡ set r (indexOf (names (e .station)) r) e
+  unfolding replace indexOf
+  replace-set [] = refl
+  replace-set (y ∷ r) = go (names (e .station) y) (replace-set r)
+    where
+      go : (b : Bool) → replace e r ≡ set r (indexOf (names (e .station)) r) e
+          → (if b then e ∷ r else y ∷ replace e r) ≡ set (y ∷ r) (if b then 0 else suc (indexOf (names (e .station)) r)) e
+      go true h = refl
+      go false h = ap (λ (z : Row). y ∷ z) h
+
   module _ (r : Row) where
-    -- What holds of the row, and of the row without its first entry, holds of the row with room.
-    room-either : (P : Row → Type 0) → P r → P (tail r) → P (withRoom r)
-    unfolding withRoom
-    room-either P h k = choose P (ltb (length r) 4) (λ e. h) (λ e. k)
+    pub put-again : someIn (names (e .station)) r ≡ true → put e r ≡ set r (indexOf (names (e .station)) r) e
+    unfolding put
+    put-again h = rw h (replace-set r)
+
+    pub put-last : someIn (names (e .station)) r ≡ false → put e r ≡ withRoom r ++ (e ∷ [])
+    unfolding put
+    put-last h = rw h
 
     pub put-mem : {x : Successor} → List·Memᴰ x (put e r) → (x ≡ e) ⊎ List·Memᴰ x r
     unfolding put
     put-mem {x} =
         choose (λ z. List·Memᴰ x z → (x ≡ e) ⊎ List·Memᴰ x r) (someIn (names (e .station)) r) (λ q m. replace-mem r m)
         (λ q m. cases (List·Memᴰ·append-cases (withRoom r) m)
-        (λ k. inr (room-either (λ z. List·Memᴰ x z → List·Memᴰ x r) (λ j. j) (mem-tail r) k))
+        (λ k. inr (room-either r (λ z. List·Memᴰ x z → List·Memᴰ x r) (λ j. j) (mem-tail r) k))
         (λ k. inl (List·Memᴰ·eq-of-singleton k)))
-
-    room-length : length r ≤ 4 → length (withRoom r) ≤ 3
-    unfolding withRoom
-    room-length h =
-        choose (λ (z : Row). length z ≤ 3) (ltb (length r) 4) (λ q. omega (arith, ltb-true)) (λ q. length-tail r 3 h)
 
     pub put-length : length r ≤ 4 → length (put e r) ≤ 4
     unfolding put
     put-length h =
         choose (λ (z : Row). length z ≤ 4) (someIn (names (e .station)) r) {a = replace e r} {b = withRoom r ++ (e ∷ [])}
         (λ q. omega (arith, replace-length r))
-        (λ q. simp length-append (omega (arith, room-length h)))
-
-    tail-stations : (l : Row) → stations (tail l) ≡ tail (stations l)
-    tail-stations [] = refl
-    tail-stations (x ∷ l) = refl
-
-    room-mem : {x : ℕ} → List·Memᴰ x (stations (withRoom r)) → List·Memᴰ x (stations r)
-    room-mem {x} =
-        room-either (λ z. List·Memᴰ x (stations z) → List·Memᴰ x (stations r))
-        (λ m. m) (λ m. mem-tail (stations r) (subst (List·Memᴰ x) (tail-stations r) m))
-
-    room-distinct : distinct (stations r) ≡ true → distinct (stations (withRoom r)) ≡ true
-    room-distinct d =
-        room-either (λ z. distinct (stations z) ≡ true) d (ap distinct (tail-stations r) ∙ distinct-tail (stations r) d)
+        (λ q. simp length-append (omega (arith, room-length r h)))
 
     pub put-distinct : distinct (stations r) ≡ true → distinct (stations (put e r)) ≡ true
     unfolding put
@@ -129,7 +158,7 @@ module _ (e : Successor) where
         choose (λ z. distinct (stations z) ≡ true) (someIn (names (e .station)) r)
         (λ q. ap distinct (replace-stations r) ∙ d)
         (λ q. ap distinct (map-append (λ x. x .station) (withRoom r) (e ∷ []))
-        ∙ distinct-last (stations (withRoom r)) (e .station) (λ m. not-named (e .station) r q (room-mem m)) (room-distinct d))
+        ∙ distinct-last (stations (withRoom r)) (e .station) (λ m. not-named (e .station) r q (room-mem r m)) (room-distinct r d))
 
 -- Entries taken out of i's rows for the destinations below c.
 module _ (masked : ℕ → Bool) (leaves : Successor → Bool) (i : ℕ) (rows : List Row) where

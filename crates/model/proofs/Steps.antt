@@ -4,10 +4,10 @@ use mathlib.Core.Path.{_≡_, refl, subst}
 use mathlib.Core.Bool.{Bool, true, false, not, _||_}
 use mathlib.Core.List.{List, [], _∷_}
 use lib.ListN.{length, set, length-append, length-take, length-drop}
-use lib.Dec.{leb, eqb}
+use lib.Dec.{eqb}
 use native.Mathlib.Omega.{arith}
-use borrow.Author.Tests.{ltb-false, leb-true, leb-false, eqb-false, not-false}
-use Rattle.base.proofs.Flags.{both, neither, choose}
+use borrow.Author.Tests.{ltb-false, leb-false, not-false}
+use Rattle.base.proofs.Flags.{neither, choose}
 use Rattle.base.proofs.Lists.{mem-at}
 use Rattle.model.specs.Memory.{Network, zeroPacket, setLink, setRow, setActive}
 use Rattle.model.specs.Memory.{setRows, setLinks, setNumbers, setSoughts, setActives, setAir}
@@ -18,6 +18,7 @@ use Rattle.model.specs.Calls.{solicit, removePacket, opening, step, run}
 use Rattle.model.proofs.Invariant.{Good, good-numbers, good-actives, good-row, good-sought, cell-empty}
 use Rattle.model.proofs.Range.{Sized, Kept, kept-in-range, in-range-kept}
 use Rattle.model.proofs.Fresh.{fresh-kept}
+use Rattle.model.proofs.Refusals.{opening-tells}
 use Rattle.model.proofs.Sending.{air-one, good-send, good-sending, copies-ok, good-remove, good-up, good-down}
 use Rattle.model.proofs.Delivery.{good-deliver}
 
@@ -49,12 +50,7 @@ good-solicit a t net ok ha ht =
     (copies-ok net a ha _ (record { source-below = ha; numbered = omega arith; destination-below = ht; ranged = ok .tables .cell a t ha ht .ranged }) tt)
 
 opening-kept : {Made : Type 0} (n start : ℕ) → (not (sizeInRange n) || eqb start 0) ≡ false → Kept Made (fresh n start)
-unfolding sizeInRange
-opening-kept n start e =
-    let w = neither (not (sizeInRange n)) (eqb start 0) e in
-    let x = both (leb 2 n) (leb n 16) (not-false (sizeInRange n) (w .0)) in
-    let z = eqb-false start 0 (w .1) in
-    fresh-kept n start (leb-true 2 n (x .0)) (leb-true n 16 (x .1)) (omega (arith, z))
+opening-kept n start e = let w = opening-tells n start e in fresh-kept n start (w .0) (w .1) (w .2)
 
 -- A call turned down leaves the network; the tests that it passed tell what the rest may use.
 module _ {Made : Type 0} (net : Network) (kept : Kept Made net) where

@@ -1,0 +1,293 @@
+-- What a loop over 0 .. c knows: laws of tests and lists that grow by one number at a time.
+use Prim.Native.Nat.{ℕ, zero, suc, _+_, _*_, _/_, _%_, _≤_, _<_}
+use mathlib.Core.Path.{_≡_, refl, sym, ap, ap₂, _∙_}
+use mathlib.Core.Logic.{_≢_}
+use mathlib.Core.Bool.{Bool, true, false, not, _&&_, _||_, and-true, and-assoc}
+use mathlib.Core.List.{List, [], _∷_, _++_, map, append-nil, map-append, append-assoc}
+use lib.ListN.{length, getD, set, take, drop, replicate, length-append, length-set, length-replicate, getD-replicate, List·getD-append}
+use lib.Seq.{ext-getD, getD-at, getD-set-same, getD-set-other}
+use lib.Dec.{ltb, leb, eqb}
+use native.Mathlib.Numerals.{add-one}
+use native.Mathlib.Omega.{arith}
+use borrow.Author.Tests.{ltb-true, ltb-false, eqb-true, eqb-false, lt-leb, leb-false, not-true}
+use Rattle.base.specs.Choice.{if_then_else_}
+use Rattle.base.specs.Lists.{allBelow, below, allIn, someIn, keep, isEmpty, tabulate, indexOf, distinct}
+use Rattle.base.proofs.Flags.{clash, passes, iff, choose, Against, less, equal, more, against}
+use Rattle.base.proofs.Lists.{all-below, all-below-at, empty-length, distinct-more}
+
+-- A loop that ends early at the first number below n that fails: what it knows before its first turn, how it goes on, how it ends early,
+-- and how it comes to its end.
+pub all-none : (f : ℕ → Bool) → allBelow 0 f ≡ true
+unfolding allBelow
+all-none f = refl
+
+pub all-more : (i : ℕ) (f : ℕ → Bool) → allBelow i f ≡ true → f i ≡ true → allBelow (i + 1) f ≡ true
+unfolding allBelow
+all-more i f h k = rw add-one (passes h k)
+
+pub all-broken : (n : ℕ) (f : ℕ → Bool) (i : ℕ) → i < n → f i ≡ false → allBelow n f ≡ false
+unfolding allBelow
+all-broken n f i h e = go (allBelow n f) refl
+  where
+    go : (b : Bool) → allBelow n f ≡ b → b ≡ false
+    go true k = clash (all-below-at n f k i h) e
+    go false k = refl
+
+pub all-ends : (n : ℕ) (f : ℕ → Bool) (i : ℕ) → i ≡ n → allBelow i f ≡ true → allBelow n f ≡ true
+all-ends n f i e h = rw e at h
+
+-- Two tests of every number at once.
+pub all-pairs : (n : ℕ) (f g : ℕ → Bool) → allBelow n (λ i. f i && g i) ≡ allBelow n f && allBelow n g
+unfolding allBelow
+all-pairs zero f g = refl
+all-pairs (suc n) f g = rw (all-pairs n f g) (shuffle (allBelow n f) (allBelow n g) (f n) (g n))
+  where
+    shuffle : (a b c d : Bool) → (a && b) && (c && d) ≡ (a && c) && (b && d)
+    shuffle true true c d = refl
+    shuffle true false true d = refl
+    shuffle true false false d = refl
+    shuffle false b c d = refl
+
+-- Every pair of numbers below n, by one loop over the places 16 · i + t with i below n.
+pub all-square : (n : ℕ) (g : ℕ → ℕ → Bool) → n ≤ 16
+    → allBelow (16 * n) (λ at. leb n (at % 16) || g (at / 16) (at % 16)) ≡ allBelow n (λ i. allBelow n (g i))
+all-square n g h = iff _ _ there back
+  where
+    test : ℕ → Bool
+    test at = leb n (at % 16) || g (at / 16) (at % 16)
+
+    there : allBelow (16 * n) test ≡ true → allBelow n (λ i. allBelow n (g i)) ≡ true
+    there e = all-below n _ (λ i l. all-below n (g i) (λ t m.
+        let p : (16 * i + t) / 16 ≡ i = omega arith in
+        let q : (16 * i + t) % 16 ≡ t = omega arith in
+        rw (p, q, lt-leb n t m) at (all-below-at (16 * n) test e (16 * i + t) (omega arith))))
+
+    back : allBelow n (λ i. allBelow n (g i)) ≡ true → allBelow (16 * n) test ≡ true
+    back e = all-below (16 * n) test (λ at l. go at l (leb n (at % 16)) refl)
+      where
+        go : (at : ℕ) → at < 16 * n → (b : Bool) → leb n (at % 16) ≡ b → b || g (at / 16) (at % 16) ≡ true
+        go at l true k = refl
+        go at l false k =
+            all-below-at n (g (at / 16)) (all-below-at n (λ i. allBelow n (g i)) e (at / 16) (omega arith)) (at % 16) (leb-false n (at % 16) k)
+
+-- The numbers that pass, one more at a time.
+module _ (f : ℕ → Bool) where
+  pub below-yes : (n : ℕ) → f n ≡ true → below (n + 1) f ≡ below n f ++ (n ∷ [])
+  unfolding below
+  below-yes n e = rw (add-one, e)
+
+  pub below-no : (n : ℕ) → f n ≡ false → below (n + 1) f ≡ below n f
+  unfolding below
+  below-no n e = rw (add-one, e) (append-nil (below n f))
+
+  pub below-length : (n : ℕ) → length (below n f) ≤ n
+  unfolding below
+  below-length zero = omega arith
+  below-length (suc n) =
+      let h = below-length n in
+      rw (length-append (below n f))
+      (choose (λ (z : List ℕ). length (below n f) + length z ≤ suc n) (f n) (λ e. omega arith) (λ e. omega arith))
+
+  pub below-grows : (n c : ℕ) → n ≤ c → length (below n f) ≤ length (below c f)
+  unfolding below
+  below-grows n zero h = let e : n ≡ 0 = omega arith in rw e (omega arith)
+  below-grows n (suc c) h = go (against n (suc c)) (λ l. below-grows n c (omega arith))
+    where
+      go : Against n (suc c) → (n < suc c → length (below n f) ≤ length (below c f)) → length (below n f) ≤ length (below (suc c) f)
+      go (less l) ih = omega (arith, ih l, length-append (below c f) (if f c then c ∷ [] else []))
+      go (equal q) ih = rw q (omega arith)
+      go (more l) ih = absurd (omega arith)
+
+  -- A number that passes is one more than those before it.
+  pub below-next : (n c : ℕ) → n < c → f n ≡ true → length (below n f) < length (below c f)
+  below-next n c h e =
+      let more = ap length (below-yes n e) ∙ length-append (below n f) (n ∷ []) in
+      omega (arith, more, below-grows (n + 1) c (omega arith))
+
+  -- A value for each, after a list.
+  module _ {A : Type 0} (g : ℕ → A) (l : List A) where
+    pub map-below-yes : (n : ℕ) → f n ≡ true → l ++ map g (below (n + 1) f) ≡ (l ++ map g (below n f)) ++ (g n ∷ [])
+    map-below-yes n e = rw (below-yes n e, map-append g (below n f) (n ∷ [])) (sym (append-assoc l (map g (below n f)) (g n ∷ [])))
+
+    pub map-below-no : (n : ℕ) → f n ≡ false → l ++ map g (below (n + 1) f) ≡ l ++ map g (below n f)
+    map-below-no n e = rw (below-no n e)
+
+-- The values of a function at the numbers below c.
+module _ {A : Type 0} where
+  pub tabulate-length : (c : ℕ) (f : ℕ → A) → length (tabulate c f) ≡ c
+  unfolding tabulate
+  tabulate-length zero f = refl
+  tabulate-length (suc c) f = length-append (tabulate c f) (f c ∷ []) ∙ rw (tabulate-length c f) (add-one c)
+
+  pub tabulate-more : (c : ℕ) (f : ℕ → A) → tabulate (c + 1) f ≡ tabulate c f ++ (f c ∷ [])
+  unfolding tabulate
+  tabulate-more c f = rw add-one refl
+
+  pub tabulate-at : (c : ℕ) (f : ℕ → A) (k : ℕ) (d : A) → k < c → getD (tabulate c f) k d ≡ f k
+  unfolding tabulate
+  tabulate-at zero f k d h = absurd (omega arith)
+  tabulate-at (suc c) f k d h = go (against k c) (λ l. tabulate-at c f k d l)
+    where
+      go : Against k c → (k < c → getD (tabulate c f) k d ≡ f k) → getD (tabulate c f ++ (f c ∷ [])) k d ≡ f k
+      go (less l) ih = List·getD-append (tabulate c f) (f c ∷ []) d k (omega (arith, tabulate-length c f)) ∙ ih l
+      go (equal q) ih = rw q (getD-at (tabulate c f) (f c) [] d c (tabulate-length c f))
+      go (more l) ih = absurd (omega arith)
+
+  pub tabulate-same : (c : ℕ) (f g : ℕ → A) → ((k : ℕ) → k < c → f k ≡ g k) → tabulate c f ≡ tabulate c g
+  unfolding tabulate
+  tabulate-same zero f g h = refl
+  tabulate-same (suc c) f g h = ap₂ (λ (l : List A) (x : A). l ++ (x ∷ [])) (tabulate-same c f g (λ k l. h k (omega arith))) (h c (omega arith))
+
+  -- Where one place changes, the list has the new value there; past the end nothing changes.
+  pub tabulate-set : (c : ℕ) (f g : ℕ → A) (i : ℕ) → ((k : ℕ) → k < c → k ≢ i → g k ≡ f k) → tabulate c g ≡ set (tabulate c f) i (g i)
+  tabulate-set c f g i h =
+      ext-getD (g i) (tabulate c g) (set (tabulate c f) i (g i)) (tabulate-length c g ∙ sym (length-set (tabulate c f) i (g i) ∙ tabulate-length c f))
+      (λ k l. at k (omega (arith, tabulate-length c g)))
+    where
+      at : (k : ℕ) → k < c → getD (tabulate c g) k (g i) ≡ getD (set (tabulate c f) i (g i)) k (g i)
+      at k l = tabulate-at c g k (g i) l ∙ go (eqb k i) refl
+        where
+          go : (b : Bool) → eqb k i ≡ b → g k ≡ getD (set (tabulate c f) i (g i)) k (g i)
+          go true e =
+              let q : k ≡ i = eqb-true k i e in
+              ap g q ∙ sym (rw q (getD-set-same (tabulate c f) i (g i) (g i) (omega (arith, tabulate-length c f))))
+          go false e =
+              let q : k ≢ i = eqb-false k i e in
+              h k l q ∙ sym (getD-set-other (tabulate c f) i k (g i) (g i) q ∙ tabulate-at c f k (g i) l)
+
+  pub tabulate-constant : (c : ℕ) (f : ℕ → A) (a : A) → ((k : ℕ) → k < c → f k ≡ a) → tabulate c f ≡ replicate c a
+  tabulate-constant c f a h =
+      ext-getD a (tabulate c f) (replicate c a) (tabulate-length c f ∙ sym (length-replicate c a))
+      (λ k l. let m : k < c = omega (arith, tabulate-length c f) in tabulate-at c f k a m ∙ h k m ∙ sym (getD-replicate c k a a m))
+
+  -- A list without place k, later ones moved up.
+  removed-length : (l : List A) (k : ℕ) → k < length l → suc (length (take k l ++ drop (suc k) l)) ≡ length l
+  removed-length [] k h = absurd (omega arith)
+  removed-length (x ∷ l) zero h = refl
+  removed-length (x ∷ l) (suc k) h = ap suc (removed-length l k (omega arith))
+
+  removed-before : (l : List A) (k i : ℕ) (d : A) → i < k → k < length l → getD (take k l ++ drop (suc k) l) i d ≡ getD l i d
+  removed-before [] k i d h g = absurd (omega arith)
+  removed-before (x ∷ l) zero i d h g = absurd (omega arith)
+  removed-before (x ∷ l) (suc k) zero d h g = refl
+  removed-before (x ∷ l) (suc k) (suc i) d h g = removed-before l k i d (omega arith) (omega arith)
+
+  removed-after : (l : List A) (k i : ℕ) (d : A) → k ≤ i → k < length l → getD (take k l ++ drop (suc k) l) i d ≡ getD l (suc i) d
+  removed-after [] k i d h g = absurd (omega arith)
+  removed-after (x ∷ l) zero i d h g = refl
+  removed-after (x ∷ l) (suc k) zero d h g = absurd (omega arith)
+  removed-after (x ∷ l) (suc k) (suc i) d h g = removed-after l k i d (omega arith) (omega arith)
+
+  pub tabulate-removed : (c k : ℕ) (f g : ℕ → A) → k ≤ c → ((i : ℕ) → i < k → g i ≡ f i) → ((i : ℕ) → k ≤ i → i < c → g i ≡ f (suc i))
+      → tabulate c g ≡ take k (tabulate (suc c) f) ++ drop (suc k) (tabulate (suc c) f)
+  tabulate-removed c k f g h before after =
+      ext-getD (f 0) (tabulate c g) (take k (tabulate (suc c) f) ++ drop (suc k) (tabulate (suc c) f))
+      (omega (arith, tabulate-length c g, removed-length (tabulate (suc c) f) k short, tabulate-length (suc c) f))
+      (λ i m. at i (omega (arith, tabulate-length c g)))
+    where
+      short : k < length (tabulate (suc c) f)
+      short = omega (arith, tabulate-length (suc c) f)
+
+      at : (i : ℕ) → i < c → getD (tabulate c g) i (f 0) ≡ getD (take k (tabulate (suc c) f) ++ drop (suc k) (tabulate (suc c) f)) i (f 0)
+      at i m = tabulate-at c g i (f 0) m ∙ go (ltb i k) refl
+        where
+          go : (b : Bool) → ltb i k ≡ b → g i ≡ getD (take k (tabulate (suc c) f) ++ drop (suc k) (tabulate (suc c) f)) i (f 0)
+          go true e =
+              let l : i < k = ltb-true i k e in
+              before i l ∙ sym (removed-before (tabulate (suc c) f) k i (f 0) l short ∙ tabulate-at (suc c) f i (f 0) (omega arith))
+          go false e =
+              let l : k ≤ i = ltb-false i k e in
+              after i l m ∙ sym (removed-after (tabulate (suc c) f) k i (f 0) l short ∙ tabulate-at (suc c) f (suc i) (f 0) (omega arith))
+
+-- Tests of the values, and what is kept of them.
+module _ {A : Type 0} (t : A → Bool) where
+  all-last : (l : List A) (x : A) → allIn t (l ++ (x ∷ [])) ≡ allIn t l && t x
+  unfolding allIn
+  all-last [] x = and-true (t x)
+  all-last (y ∷ l) x = ap (λ (b : Bool). t y && b) (all-last l x) ∙ sym (and-assoc (t y) (allIn t l) (t x))
+
+  pub all-tabulate : (c : ℕ) (f : ℕ → A) → allIn t (tabulate c f) ≡ allBelow c (λ k. t (f k))
+  unfolding tabulate allIn allBelow
+  all-tabulate zero f = refl
+  all-tabulate (suc c) f = all-last (tabulate c f) (f c) ∙ ap (λ (b : Bool). b && t (f c)) (all-tabulate c f)
+
+  keep-last : (l : List A) (x : A) → keep t (l ++ (x ∷ [])) ≡ keep t l ++ (if t x then x ∷ [] else [])
+  unfolding keep
+  keep-last [] x = choose (λ (z : List A). z ≡ z) (t x) (λ e. refl) (λ e. refl)
+  keep-last (y ∷ l) x = go (t y) (keep-last l x)
+    where
+      go : (b : Bool) → keep t (l ++ (x ∷ [])) ≡ keep t l ++ (if t x then x ∷ [] else [])
+          → (if b then y ∷ keep t (l ++ (x ∷ [])) else keep t (l ++ (x ∷ []))) ≡ (if b then y ∷ keep t l else keep t l) ++ (if t x then x ∷ [] else [])
+      go true e = ap (λ (z : List A). y ∷ z) e
+      go false e = e
+
+  pub keep-yes : (c : ℕ) (f : ℕ → A) → t (f c) ≡ true → keep t (tabulate (c + 1) f) ≡ keep t (tabulate c f) ++ (f c ∷ [])
+  keep-yes c f e = ap (keep t) (tabulate-more c f) ∙ keep-last (tabulate c f) (f c) ∙ rw e refl
+
+  pub keep-no : (c : ℕ) (f : ℕ → A) → t (f c) ≡ false → keep t (tabulate (c + 1) f) ≡ keep t (tabulate c f)
+  keep-no c f e = ap (keep t) (tabulate-more c f) ∙ keep-last (tabulate c f) (f c) ∙ rw e (append-nil (keep t (tabulate c f)))
+
+  -- The place of the first element that passes, from what is known of the places up to it.
+  index-is : (l : List A) (k : ℕ) (d : A) → k < length l → ((i : ℕ) → i < k → t (getD l i d) ≡ false) → t (getD l k d) ≡ true → indexOf t l ≡ k
+  unfolding indexOf
+  index-is [] k d h none e = absurd (omega arith)
+  index-is (x ∷ l) zero d h none e = rw e
+  index-is (x ∷ l) (suc k) d h none e =
+      rw (none 0 (omega arith)) (ap suc (index-is l k d (omega arith) (λ i m. none (suc i) (omega arith)) e))
+
+  index-past : (l : List A) (d : A) → ((i : ℕ) → i < length l → t (getD l i d) ≡ false) → indexOf t l ≡ length l
+  unfolding indexOf
+  index-past [] d none = refl
+  index-past (x ∷ l) d none = rw (none 0 (omega arith)) (ap suc (index-past l d (λ i m. none (suc i) (omega arith))))
+
+  -- Some element passes where the place is within the list, and none where it is past it.
+  pub index-within : (l : List A) → indexOf t l < length l → someIn t l ≡ true
+  unfolding indexOf someIn
+  index-within [] h = absurd (omega arith)
+  index-within (x ∷ l) h = go (t x) (λ k. index-within l k) h
+    where
+      go : (b : Bool) → (indexOf t l < length l → someIn t l ≡ true) → (if b then 0 else suc (indexOf t l)) < suc (length l) → b || someIn t l ≡ true
+      go true ih h = refl
+      go false ih h = ih (omega arith)
+
+  pub index-outside : (l : List A) → length l ≤ indexOf t l → someIn t l ≡ false
+  unfolding indexOf someIn
+  index-outside [] h = refl
+  index-outside (x ∷ l) h = go (t x) (λ k. index-outside l k) h
+    where
+      go : (b : Bool) → (length l ≤ indexOf t l → someIn t l ≡ false) → suc (length l) ≤ (if b then 0 else suc (indexOf t l)) → b || someIn t l ≡ false
+      go true ih h = absurd (omega arith)
+      go false ih h = ih (omega arith)
+
+  -- A loop that looks for it: none of the k places before passes.
+  module _ (c : ℕ) (f : ℕ → A) (k : ℕ) (none : allBelow k (λ i. not (t (f i))) ≡ true) where
+    failed : (i : ℕ) → i < k → k ≤ c → t (getD (tabulate c f) i (f 0)) ≡ false
+    failed i m h = ap t (tabulate-at c f i (f 0) (omega arith)) ∙ not-true (t (f i)) (all-below-at k (λ i. not (t (f i))) none i m)
+
+    pub index-found : k < c → t (f k) ≡ true → indexOf t (tabulate c f) ≡ k
+    index-found h e =
+        index-is (tabulate c f) k (f 0) (omega (arith, tabulate-length c f)) (λ i m. failed i m (omega arith)) (ap t (tabulate-at c f k (f 0) h) ∙ e)
+
+    pub index-not-found : k ≡ c → indexOf t (tabulate c f) ≡ c
+    index-not-found e =
+        index-past (tabulate c f) (f 0) (λ i m. failed i (omega (arith, tabulate-length c f)) (omega arith)) ∙ tabulate-length c f
+
+-- A list of no values is empty, and no other.
+pub tabulate-empty : {A : Type 0} (c : ℕ) (f : ℕ → A) → isEmpty (tabulate c f) ≡ eqb c 0
+tabulate-empty c f = empty-length (tabulate c f) ∙ ap (λ k. eqb k 0) (tabulate-length c f)
+
+-- No number stands twice among the values where none stands among those before it.
+module _ {A : Type 0} (number : A → ℕ) where
+  some-map : (j : ℕ) (l : List A) → someIn (eqb j) (map number l) ≡ someIn (λ x. eqb j (number x)) l
+  unfolding someIn
+  some-map j [] = refl
+  some-map j (x ∷ l) = ap (λ (b : Bool). eqb j (number x) || b) (some-map j l)
+
+  pub distinct-tabulate : (c : ℕ) (f : ℕ → A)
+      → distinct (map number (tabulate c f)) ≡ allBelow c (λ k. not (someIn (λ x. eqb (number (f k)) (number x)) (tabulate k f)))
+  unfolding tabulate allBelow distinct
+  distinct-tabulate zero f = refl
+  distinct-tabulate (suc c) f =
+      ap distinct (map-append number (tabulate c f) (f c ∷ []))
+      ∙ distinct-more (map number (tabulate c f)) (number (f c))
+      ∙ rw (distinct-tabulate c f, some-map (number (f c)) (tabulate c f))

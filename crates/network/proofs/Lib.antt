@@ -1,0 +1,7 @@
+pub mod Bits
+pub mod ViewLaws
+pub mod RowLaws
+pub mod CutLaws
+pub mod PacketLaws
+pub mod RangeLaws
+pub mod Ranged

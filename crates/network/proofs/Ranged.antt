@@ -1,0 +1,126 @@
+-- What memory in range gives to the code, place by place.
+use Prim.Native.Nat.{ℕ, _^_, _≤_, _<_}
+use mathlib.Core.Path.{_≡_, sym, ap, subst, _∙_}
+use mathlib.Core.Logic.{_≢_}
+use mathlib.Core.Bool.{Bool, true}
+use mathlib.Core.List.{List}
+use lib.ListN.{length, getD, length-map}
+use native.Mathlib.Omega.{arith}
+use Rattle.base.proofs.Flags.{Against, less, equal, more, against}
+use Rattle.base.proofs.Lists.{mem-at}
+use Rattle.base.proofs.Loops.{tabulate-length, tabulate-at}
+use Rattle.label.specs.declared.Label.{Label}
+use Rattle.label.specs.Label.{inRange}
+use Rattle.model.specs.Memory as model
+use Rattle.model.specs.Memory.{place, memoryInRange}
+use Rattle.model.proofs.Invariant.{HeadOk, BodyOk, PacketOk, RecordOk}
+use Rattle.model.proofs.Range.{Sized, Kept, in-range-kept}
+use Rattle.network.specs.declared.Packet.{Packet}
+use Rattle.network.specs.declared.Memory.{Memory}
+use Rattle.network.specs.View.{zeroRow, zeroRecord, zeroPacket, rowOf, recordOf, requestOf, replyOf, bodyOf, packetOf, airOf, labelOf, view}
+use Rattle.network.proofs.ViewLaws.{row-at, record-at, body-request, body-reply, body-error, body-other}
+use Rattle.network.proofs.RowLaws.{row-length}
+use Rattle.network.proofs.PacketLaws.{air-length, air-at}
+
+-- The tables have their sizes.
+pub sized : (memory : Memory) → length (memory .rows) ≡ 256 → length (memory .records) ≡ 256 → length (memory .sought) ≡ 16 → Sized (view memory)
+unfolding view
+sized memory rows records sought = record {
+  labels-length = tabulate-length 256 (labelOf (memory .s) (memory .m) (memory .d));
+  rows-length = length-map (memory .rows) rowOf ∙ rows;
+  records-length = length-map (memory .records) recordOf ∙ records;
+  sought-length = sought;
+}
+
+-- A packet, by its kind.
+pub record Carried (n : ℕ) (p : Packet) : Type 0 where
+  pub sender-below : p .sender < n
+  pub receiver-below : p .receiver < n
+  pub apart : p .sender ≢ p .receiver
+  pub kinds : (0 < p .kind) × (p .kind < 4)
+  pub head : p .kind ≢ 3 → HeadOk n (p .source) (p .number .0) (p .destination) (p .label)
+  pub mask : p .kind ≡ 3 → p .mask < 2 ^ n
+
+module _ (n : ℕ) (p : Packet) (ok : BodyOk n (bodyOf p)) where
+  carried-kinds : (0 < p .kind) × (p .kind < 4)
+  carried-kinds = go (against (p .kind) 0) (against (p .kind) 4)
+    where
+      other : (p .kind ≢ 1) × (p .kind ≢ 2) × (p .kind ≢ 3) → ⊥
+      other h = subst (BodyOk n) (body-other p (h .0) (h .1) (h .2)) ok
+
+      go : Against (p .kind) 0 → Against (p .kind) 4 → (0 < p .kind) × (p .kind < 4)
+      go (less l) b = absurd (omega arith)
+      go (equal e) b = absurd (other ((λ q. omega arith), (λ q. omega arith), (λ q. omega arith)))
+      go (more l) (less m) = (l, m)
+      go (more l) (equal e) = absurd (other ((λ q. omega arith), (λ q. omega arith), (λ q. omega arith)))
+      go (more l) (more m) = absurd (other ((λ q. omega arith), (λ q. omega arith), (λ q. omega arith)))
+
+  carried-head : p .kind ≢ 3 → HeadOk n (p .source) (p .number .0) (p .destination) (p .label)
+  unfolding requestOf replyOf
+  carried-head h = go (against (p .kind) 2)
+    where
+      go : Against (p .kind) 2 → HeadOk n (p .source) (p .number .0) (p .destination) (p .label)
+      go (less l) = subst (BodyOk n) (body-request p (omega (arith, carried-kinds))) ok
+      go (equal e) = subst (BodyOk n) (body-reply p e) ok
+      go (more l) = absurd (h (omega (arith, carried-kinds)))
+
+  carried-mask : p .kind ≡ 3 → p .mask < 2 ^ n
+  carried-mask e = subst (BodyOk n) (body-error p e) ok
+
+carried : (n : ℕ) {L : List Label} {K : List Bool} (p : Packet) → PacketOk ⊥ n L K (packetOf p) → Carried n p
+unfolding packetOf
+carried n p ok = record {
+  sender-below = ok .sender-below;
+  receiver-below = ok .receiver-below;
+  apart = ok .apart;
+  kinds = carried-kinds n p (ok .body);
+  head = carried-head n p (ok .body);
+  mask = carried-mask n p (ok .body);
+}
+
+pub record Ranged (memory : Memory) : Type 0 where
+  pub low : 2 ≤ memory .n
+  pub high : memory .n ≤ 16
+  pub air-count : memory .air .count ≤ 128
+  pub packet : (k : ℕ) → k < memory .air .count → Carried (memory .n) (getD (memory .air .packets) k zeroPacket)
+  pub row-count : (i t : ℕ) → i < memory .n → t < memory .n → getD (memory .rows) (place i t) zeroRow .count ≤ 4
+  pub label : (i t : ℕ) → i < memory .n → t < memory .n → inRange (labelOf (memory .s) (memory .m) (memory .d) (place i t)) ≡ true
+  pub kept : (i s : ℕ) → i < memory .n → s < memory .n → i ≢ s → RecordOk (memory .n) (recordOf (getD (memory .records) (place i s) zeroRecord))
+  pub sought : (i : ℕ) → i < memory .n → getD (memory .sought) i 0 < memory .n
+
+module _ (memory : Memory) (k : Kept ⊥ (view memory)) where
+  packet-carried : (x : ℕ) → x < memory .air .count → Carried (memory .n) (getD (memory .air .packets) x zeroPacket)
+  unfolding view
+  packet-carried x h =
+      let there = mem-at (airOf (memory .air)) x model.zeroPacket (omega (arith, air-length (memory .air))) in
+      carried (memory .n) _ (subst (PacketOk ⊥ _ _ _) (air-at (memory .air) x model.zeroPacket h) (k .good .air _ there))
+
+  row-short : (i t : ℕ) → i < memory .n → t < memory .n → getD (memory .rows) (place i t) zeroRow .count ≤ 4
+  unfolding view
+  row-short i t hi ht =
+      let row = getD (memory .rows) (place i t) zeroRow in
+      omega (arith, ap length (row-at (memory .rows) (place i t)), row-length row, k .good .tables .cell i t hi ht .short)
+
+  label-ranged : (i t : ℕ) → i < memory .n → t < memory .n → inRange (labelOf (memory .s) (memory .m) (memory .d) (place i t)) ≡ true
+  unfolding view
+  label-ranged i t hi ht =
+      let f = labelOf (memory .s) (memory .m) (memory .d) in
+      let at = tabulate-at 256 f (place i t) model.zeroLabel (omega (arith, k .good .high)) in
+      ap inRange (sym at) ∙ k .good .tables .cell i t hi ht .ranged
+
+  pub ranged : Ranged memory
+  unfolding view
+  ranged = record {
+    low = k .good .low;
+    high = k .good .high;
+    air-count = omega (arith, k .room, air-length (memory .air));
+    packet = packet-carried;
+    row-count = row-short;
+    label = label-ranged;
+    kept = λ i s hi hs q. subst (RecordOk (memory .n)) (record-at (memory .records) (place i s)) (k .good .records .each i s hi hs q);
+    sought = λ i hi. k .good .sought .each i hi;
+  }
+
+-- The same from the range test.
+pub in-range-ranged : (memory : Memory) → Sized (view memory) → memoryInRange (view memory) ≡ true → Ranged memory
+in-range-ranged memory s h = ranged memory (in-range-kept (view memory) h s)

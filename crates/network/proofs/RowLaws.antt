@@ -1,0 +1,125 @@
+-- Laws of rows read as lists.
+use Prim.Native.Nat.{ℕ, _+_, _≤_, _<_}
+use mathlib.Core.Path.{_≡_, refl, sym, ap, ap₂, _∙_}
+use mathlib.Core.Logic.{_≢_}
+use mathlib.Core.Bool.{Bool, true, false, not}
+use mathlib.Core.List.{[], _∷_, _++_, tail}
+use lib.ListN.{length, getD, set}
+use lib.Seq.{getD-set-same, getD-set-other}
+use lib.Dec.{eqb}
+use native.Mathlib.Omega.{arith}
+use borrow.Author.Tests.{eq-eqb, ne-eqb}
+use Rattle.base.specs.Lists.{someIn, keep, tabulate}
+use Rattle.base.proofs.Lists.{keep-length, none-left, some-left, empty-length}
+use Rattle.base.proofs.Loops.{tabulate-length, tabulate-more, tabulate-same, tabulate-set}
+use Rattle.label.specs.declared.Label.{Label}
+use Rattle.label.specs.Label.{label}
+use Rattle.model.specs.Memory as model
+use Rattle.model.specs.Memory.{names, without}
+use Rattle.model.specs.Calls.{empties}
+use Rattle.network.specs.declared.Row.{Row}
+use Rattle.network.specs.declared.rows.Keep.the-variants.{Without}
+use Rattle.network.specs.View.{successor, entryOf, rowOf, keeps}
+
+-- Whether entry k names j.
+module _ (row : Row) (k j : ℕ) where
+  pub names-same : getD (row .stations) k 0 ≡ j → names j (entryOf row k) ≡ true
+  unfolding names entryOf
+  names-same e = eq-eqb j _ (sym e)
+
+  pub names-other : (getD (row .stations) k 0 ≡ j → ⊥) → not (names j (entryOf row k)) ≡ true
+  unfolding names entryOf
+  names-other h = ap not (ne-eqb j _ (λ e. h (sym e)))
+
+-- The row with an entry written at a place, and a count.
+abbrev pub written : Row → ℕ → ℕ → Label → ℕ → Row
+written row at station label count = record { labels = set (row .labels) at label; stations = set (row .stations) at station; count = count }
+
+-- Room for four entries, as the arrays have.
+pub record Four (row : Row) : Type 0 where
+  pub stations-length : length (row .stations) ≡ 4
+  pub labels-length : length (row .labels) ≡ 4
+
+module _ (row : Row) (four : Four row) (at station : ℕ) (label : Label) (count : ℕ) where
+  written-here : at < 4 → entryOf (written row at station label count) at ≡ successor station label
+  unfolding entryOf
+  written-here h =
+      ap₂ (λ (s : ℕ) (l : Label). successor s l)
+      (getD-set-same (row .stations) at station 0 (omega (arith, four .stations-length)))
+      (getD-set-same (row .labels) at label _ (omega (arith, four .labels-length)))
+
+  written-elsewhere : (k : ℕ) → k ≢ at → entryOf (written row at station label count) k ≡ entryOf row k
+  unfolding entryOf
+  written-elsewhere k h =
+      ap₂ (λ (s : ℕ) (l : Label). successor s l)
+      (getD-set-other (row .stations) at k station 0 h) (getD-set-other (row .labels) at k label _ h)
+
+-- An entry written at the count is one more.
+pub row-push : (row : Row) → Four row → (station : ℕ) (label : Label) → row .count < 4
+    → rowOf (written row (row .count) station label (row .count + 1)) ≡ rowOf row ++ (successor station label ∷ [])
+unfolding rowOf
+row-push row four station label h =
+    let c = row .count in
+    let next = written row c station label (c + 1) in
+    tabulate-more c (entryOf next)
+    ∙ ap₂ (λ (l : model.Row) (e : model.Successor). l ++ (e ∷ []))
+    (tabulate-same c (entryOf next) (entryOf row) (λ k l. written-elsewhere row four c station label (c + 1) k (λ e. omega arith)))
+    (written-here row four c station label (c + 1) h)
+
+-- An entry written below the count takes that place.
+pub row-set : (row : Row) → Four row → (at station : ℕ) (label : Label) → at < 4
+    → rowOf (written row at station label (row .count)) ≡ set (rowOf row) at (successor station label)
+unfolding rowOf
+row-set row four at station label h =
+    let next = written row at station label (row .count) in
+    tabulate-set (row .count) (entryOf row) (entryOf next) at (λ k l q. written-elsewhere row four at station label (row .count) k q)
+    ∙ ap (λ e. set (tabulate (row .count) (entryOf row)) at e) (written-here row four at station label (row .count) h)
+
+pub row-length : (row : Row) → length (rowOf row) ≡ row .count
+unfolding rowOf
+row-length row = tabulate-length (row .count) (entryOf row)
+
+-- Of k entries no more than k stay.
+pub kept-short : (next : Row) (t : model.Successor → Bool) (k : ℕ) (f : ℕ → model.Successor) → rowOf next ≡ keep t (tabulate k f) → next .count ≤ k
+kept-short next t k f e =
+    let q : length (keep t (tabulate k f)) ≡ next .count = ap length (sym e) ∙ row-length next in
+    omega (arith, keep-length t (tabulate k f), tabulate-length k f)
+
+pub kept-shorter : (row next : Row) (t : model.Successor → Bool) → rowOf next ≡ keep t (rowOf row) → next .count ≤ row .count
+unfolding rowOf
+kept-shorter row next t e = kept-short next t (row .count) (entryOf row) e
+
+-- A full row without its first entry.
+pub row-first-left : (row : Row) → row .count ≡ 4
+    → rowOf (record {
+      labels = getD (row .labels) 1 (label 0 0 0) ∷ getD (row .labels) 2 (label 0 0 0) ∷ getD (row .labels) 3 (label 0 0 0) ∷ getD (row .labels) 3 (label 0 0 0) ∷ [];
+      stations = getD (row .stations) 1 0 ∷ getD (row .stations) 2 0 ∷ getD (row .stations) 3 0 ∷ getD (row .stations) 3 0 ∷ [];
+      count = 3;
+    }) ≡ tail (rowOf row)
+unfolding rowOf entryOf tabulate
+row-first-left row full = rw full refl
+
+-- A row that j left: what its count tells.
+module _ (row kept : Row) (j : ℕ) (e : rowOf kept ≡ keep (keeps (Without j)) (rowOf row)) where
+  pub lost : rowOf kept ≡ without (names j) (rowOf row)
+  unfolding without keeps
+  lost = e
+
+  left-length : length (without (names j) (rowOf row)) ≡ kept .count
+  left-length = ap length (sym lost) ∙ row-length kept
+
+  pub lost-none : kept .count ≡ row .count → someIn (names j) (rowOf row) ≡ false
+  unfolding without
+  lost-none q = none-left (names j) (rowOf row) (left-length ∙ q ∙ sym (row-length row))
+
+  pub lost-some : kept .count ≢ row .count → someIn (names j) (rowOf row) ≡ true
+  unfolding without
+  lost-some n = some-left (names j) (rowOf row) (λ q. n (sym left-length ∙ q ∙ row-length row))
+
+  pub empties-none : kept .count ≡ row .count → empties (names j) (rowOf row) ≡ false
+  unfolding empties
+  empties-none q = rw (lost-none q)
+
+  pub empties-some : kept .count ≢ row .count → empties (names j) (rowOf row) ≡ eqb (kept .count) 0
+  unfolding empties
+  empties-some n = rw (lost-some n) (empty-length (without (names j) (rowOf row)) ∙ ap (λ c. eqb c 0) left-length)

@@ -1,0 +1,96 @@
+-- `rows::take_out` meets its contract: after t turns the rows for the destinations below t are done.
+use Prim.Native.Nat.{_+_, _-_, _^_, _≤_}
+use mathlib.Core.Path.{_≡_, sym, ap, _∙_}
+use mathlib.Core.Bool.{_||_}
+use native.Mathlib.Omega.{arith}
+use borrow.Author.Needs.{needs}
+use Rattle.base.specs.Choice.{if_then_else_}
+use Rattle.base.proofs.Flags.{cases}
+use Rattle.network.proofs.CutLaws.{Taking, taking-none, taking-below, taking-not, taking-more}
+use Rattle.network.proofs.rows.take_out.Statement.{statement}
+use Rattle.network.proofs.rows.take_out.Tie as tie
+
+abbrev Inv-loop : tie.InvT-loop
+Inv-loop i j n mask rows next₀ emptied₀ removed₀ t₀ next emptied removed t = (t ≤ n) × Taking mask j i rows t next emptied removed
+
+abbrev μ-loop : tie.MeasureT-loop
+μ-loop i j n mask rows next₀ emptied₀ removed₀ t₀ next emptied removed t = n - t
+
+loop-holds : tie.Need-loop-holds Inv-loop μ-loop
+loop-holds c = (omega arith, taking-none _ _ _ _)
+
+bit-requires : tie.Need-bit-requires Inv-loop μ-loop
+bit-requires c κs = search needs
+
+place-requires : tie.Need-place-requires Inv-loop μ-loop
+place-requires c κs = search needs
+
+mul-row : tie.Need-mul-row Inv-loop μ-loop
+mul-row c = search needs
+
+array-copy-out-row : tie.Need-array-copy-out-row Inv-loop μ-loop
+array-copy-out-row c = search needs
+
+lose-requires : tie.Need-lose-requires Inv-loop μ-loop
+lose-requires c κs =
+    let start = c .before .before .before .before .before .before in
+    rw (c .before .place .ensures) (start .pre .1 (c .before .before .before .before .before .loop .t) (omega arith))
+
+mul-next : tie.Need-mul-next Inv-loop μ-loop
+mul-next c = search needs
+
+array-set-from-next : tie.Need-array-set-from-next Inv-loop μ-loop
+array-set-from-next c = search needs
+
+marked-requires : tie.Need-marked-requires Inv-loop μ-loop
+marked-requires c κs = (omega arith, taking-below _ _ _ _ _ _ _ _ (c .before .before .before .before .before .before .before .loop .inv .1))
+
+add-t : tie.Need-add-t Inv-loop μ-loop
+add-t c = search needs
+
+loop-less : tie.Need-loop-less Inv-loop μ-loop
+loop-less c = search needs
+
+loop-again : tie.Need-loop-again Inv-loop μ-loop
+loop-again c =
+    let args = c .before .before .before .before .args in
+    let at = c .before .before .before .loop in
+    let masked = sym (c .before .bit .ensures) in
+    cases
+    (c .if1 .came)
+    (λ w.
+    let e = w .1 .ensures in
+    let lost = rw e at (w .3 .ensures) in (
+      omega arith,
+      rw (w .7, e)
+          (taking-more _ _ _ _ _ _ _ _ (at .inv .1) _ _ _ (masked ∙ w .0 .taken) (lost .0)
+          (w .8 ∙ w .5 .ensures ∙ ap (λ b. at .emptied + (if b then 2 ^ at .t else 0)) (lost .1 .1))
+          (w .9 ∙ ap (λ b. at .removed || b) (lost .1 .0))),
+    ))
+    (λ w. (omega arith, rw (w .1, w .2, w .3) (taking-not _ _ _ _ _ _ _ _ (at .inv .1) (masked ∙ w .0 .left))))
+
+returns : tie.Need-returns Inv-loop μ-loop
+returns c =
+    let e : c .before .loop .t ≡ c .before .before .args .n = omega arith in
+    let k = rw e at (c .before .loop .inv .1) in
+    (k .taken, (k .lost, k .found))
+
+pub take-out-spec : {M : Type 1} → statement M
+take-out-spec =
+    tie.close
+    (tie.spec
+    Inv-loop
+    μ-loop
+    loop-holds
+    bit-requires
+    place-requires
+    mul-row
+    array-copy-out-row
+    lose-requires
+    mul-next
+    array-set-from-next
+    marked-requires
+    add-t
+    loop-less
+    loop-again
+    returns)

@@ -1,0 +1,92 @@
+-- The memory read as the model's network. Free are the places past a count: row entries from `count` up, packets from `count` up, and the
+-- fields that a packet's kind doesn't use. They have no part in the reading. What the tables hold for stations from n up is read, as the
+-- model's tables have it, and no test asks for it. A count over its limit is read as a list that long, and a kind other than 1 to 3 as the
+-- body `other`, so that memory out of range is read as a network out of range.
+use Prim.Native.Nat.{ℕ}
+use mathlib.Core.Bool.{Bool, false, not}
+use mathlib.Core.List.{List, [], map}
+use lib.ListN.{getD}
+use lib.Dec.{eqb}
+use Rattle.base.specs.Choice.{if_then_else_}
+use Rattle.base.specs.Lists.{tabulate}
+use Rattle.label.specs.declared.Label.{Label}
+use Rattle.label.specs.Label.{label, above}
+use Rattle.model.specs.Memory as model
+use Rattle.model.specs.Memory.{names}
+use Rattle.network.specs.declared.RequestNumber.{RequestNumber}
+use Rattle.network.specs.declared.Row.{Row}
+use Rattle.network.specs.declared.rows.Keep.{Keep}
+use Rattle.network.specs.declared.rows.Keep.the-variants.{Under, Without}
+use Rattle.network.specs.declared.Record.{Record}
+use Rattle.network.specs.declared.Packet.{Packet}
+use Rattle.network.specs.declared.Air.{Air}
+use Rattle.network.specs.declared.Memory.{Memory}
+
+-- What stands for a read past an array's end, which no code makes.
+abbrev pub zeroNumber : RequestNumber
+zeroNumber = record { 0 = 0 }
+
+abbrev pub zeroRow : Row
+zeroRow = record { labels = []; stations = []; count = 0 }
+
+abbrev pub zeroRecord : Record
+zeroRecord = record { cached = label 0 0 0; number = zeroNumber; destination = 0; «last_hop» = 0; passed = false }
+
+abbrev pub zeroPacket : Packet
+zeroPacket = record { label = label 0 0 0; number = zeroNumber; mask = 0; kind = 0; sender = 0; receiver = 0; source = 0; destination = 0; reset = false }
+
+-- A row: entry k is a station with the label that it advertised.
+abbrev pub successor : ℕ → Label → model.Successor
+successor station label = record { station = station; label = label }
+
+unfoldable pub entryOf : Row → ℕ → model.Successor
+entryOf row k = successor (getD (row .stations) k 0) (getD (row .labels) k (label 0 0 0))
+
+unfoldable pub rowOf : Row → model.Row
+rowOf row = tabulate (row .count) (entryOf row)
+
+-- Which entries stay in a row: those whose label g is above, or those that don't name j.
+unfoldable pub keeps : Keep → model.Successor → Bool
+keeps (Under g) e = above g (e .label)
+keeps (Without j) e = not (names j e)
+
+unfoldable pub recordOf : Record → model.Record
+recordOf r = record { number = r .number .0; destination = r .destination; cached = r .cached; lastHop = r .«last_hop»; passed = r .passed }
+
+-- "kind: 1 request (source, number, destination, label, reset bit), 2 reply (source, number, destination, label), 3 error (a 16-bit mask ..)".
+unfoldable pub requestOf : Packet → model.Request
+requestOf p = record { source = p .source; number = p .number .0; destination = p .destination; label = p .label; reset = p .reset }
+
+unfoldable pub replyOf : Packet → model.Reply
+replyOf p = record { source = p .source; number = p .number .0; destination = p .destination; label = p .label }
+
+unfoldable pub bodyOf : Packet → model.Body
+bodyOf p =
+    if eqb (p .kind) 1 then model.request (requestOf p)
+    else if eqb (p .kind) 2 then model.reply (replyOf p)
+    else if eqb (p .kind) 3 then model.error (p .mask)
+    else model.other (p .kind)
+
+unfoldable pub packetOf : Packet → model.Packet
+packetOf p = record { sender = p .sender; receiver = p .receiver; body = bodyOf p }
+
+unfoldable pub airOf : Air → List model.Packet
+airOf air = tabulate (air .count) (λ k. packetOf (getD (air .packets) k zeroPacket))
+
+-- The tables of s, m and d as a table of labels.
+unfoldable pub labelOf : List ℕ → List ℕ → List ℕ → ℕ → Label
+labelOf s m d at = label (getD s at 0) (getD m at 0) (getD d at 0)
+
+-- The whole memory.
+unfoldable pub view : Memory → model.Network
+view memory = record {
+  n = memory .n;
+  labels = tabulate 256 (labelOf (memory .s) (memory .m) (memory .d));
+  rows = map rowOf (memory .rows);
+  records = map recordOf (memory .records);
+  links = memory .links;
+  numbers = map (λ k. k .0) (memory .numbers);
+  sought = memory .sought;
+  active = memory .active;
+  air = airOf (memory .air);
+}

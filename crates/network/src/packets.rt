@@ -1,0 +1,165 @@
+// The packets in the air: sending, removing and dropping them.
+ghost use mathlib.Core.Path.{_≡_};
+ghost use mathlib.Core.Bool.{not};
+ghost use mathlib.Core.List.{[], _∷_, _++_, map};
+ghost use Prim.Native.Nat.{suc, _+_, _<_, _≤_};
+ghost use lib.ListN.{length, take, drop};
+ghost use Rattle.base.specs.Lists.{keep, below};
+ghost use Rattle.model.specs.Memory.{linkIn, request, reply, error};
+ghost use Rattle.model.specs.Calls.{packet, between};
+ghost use Rattle.network.specs.View.{bodyOf, packetOf, airOf};
+use crate::Air;
+use crate::Packet;
+use crate::RequestNumber;
+use crate::links::link_up;
+use crate::places::label_of;
+use label::Label;
+
+// A request, from nobody to nobody.
+pub fn request(
+    source: u8,
+    number: RequestNumber,
+    destination: u8,
+    label: Label,
+    reset: bool,
+) -> Packet
+    ensures { λ r. ⌜ bodyOf r ≡ request (record { source = source; number = number .0; destination = destination; label = label; reset = reset }) ⌝ }
+{
+    Packet {
+        label: label,
+        number: number,
+        mask: 0,
+        kind: 1,
+        sender: 0,
+        receiver: 0,
+        source: source,
+        destination: destination,
+        reset: reset,
+    }
+}
+
+// A reply, from nobody to nobody.
+pub fn reply(source: u8, number: RequestNumber, destination: u8, label: Label) -> Packet
+    ensures { λ r. ⌜ bodyOf r ≡ reply (record { source = source; number = number .0; destination = destination; label = label }) ⌝ }
+{
+    Packet {
+        label: label,
+        number: number,
+        mask: 0,
+        kind: 2,
+        sender: 0,
+        receiver: 0,
+        source: source,
+        destination: destination,
+        reset: false,
+    }
+}
+
+// An error, from nobody to nobody.
+pub fn error(mask: u16) -> Packet
+    ensures { λ r. ⌜ bodyOf r ≡ error mask ⌝ }
+{
+    Packet {
+        label: label_of(0, 0, 0),
+        number: RequestNumber(0),
+        mask: mask,
+        kind: 3,
+        sender: 0,
+        receiver: 0,
+        source: 0,
+        destination: 0,
+        reset: false,
+    }
+}
+
+// The packet from a to b.
+pub fn addressed(p: Packet, a: u8, b: u8) -> Packet
+    ensures { λ r. ⌜ packetOf r ≡ packet a b (bodyOf p) ⌝ }
+{
+    let mut next = p;
+    next.sender = a;
+    next.receiver = b;
+    next
+}
+
+// The air with p last.
+pub fn append(air: Air, p: Packet) -> Air
+    requires { ⌜ air .count < 128 ⌝ }
+    ensures { λ r. ⌜ airOf r ≡ airOf air ++ (packetOf p ∷ []) ⌝ }
+{
+    let count = air.count;
+    let at = count as usize;
+    let mut next = air;
+    next.packets[at] = p;
+    next.count = count + 1;
+    next
+}
+
+// The air without packet k; later ones move up.
+pub fn remove(air: Air, k: usize) -> Air
+    requires { ⌜ (k < air .count) × (air .count ≤ 128) ⌝ }
+    ensures { λ r. ⌜ airOf r ≡ take k (airOf air) ++ drop (suc k) (airOf air) ⌝ }
+{
+    let count = air.count - 1;
+    let last = count as usize;
+    let mut next = air;
+    let mut i = k;
+    while i < last {
+        let p = air.packets[i + 1];
+        next.packets[i] = p;
+        i += 1;
+    }
+    next.count = count;
+    next
+}
+
+// Whether p is under way between a and b.
+fn is_between(p: Packet, a: u8, b: u8) -> bool
+    ensures { λ r. ⌜ r ≡ between a b (packetOf p) ⌝ }
+{
+    let sender = p.sender;
+    let receiver = p.receiver;
+    (sender == a) & (receiver == b) | (sender == b) & (receiver == a)
+}
+
+// The air without the packets between a and b, the others in their order.
+pub fn without_between(air: Air, a: u8, b: u8) -> Air
+    requires { ⌜ air .count ≤ 128 ⌝ }
+    ensures { λ r. ⌜ airOf r ≡ keep (λ p. not (between a b p)) (airOf air) ⌝ }
+{
+    let count = air.count;
+    let mut next = air;
+    let mut left = 0;
+    let mut k = 0;
+    while k < count {
+        let p = air.packets[k as usize];
+        if !is_between(p, a, b) {
+            next.packets[left as usize] = p;
+            left += 1;
+        }
+        k += 1;
+    }
+    next.count = left;
+    next
+}
+
+// The air with one copy of p for each up neighbour of a, ascending.
+pub fn broadcast(air: Air, links: [bool; 256], n: u8, a: u8, p: Packet) -> Air
+    requires { ⌜ (n ≤ 16) × (a < 16) ⌝ }
+    requires { ⌜ air .count + length (below n (linkIn links a)) ≤ 128 ⌝ }
+    ensures { λ r. ⌜ airOf r ≡ airOf air ++ map (λ b. packet a b (bodyOf p)) (below n (linkIn links a)) ⌝ }
+{
+    let mut next = air;
+    let mut count = air.count;
+    let mut b = 0;
+    while b < n {
+        if link_up(links, a, b) {
+            let at = count as usize;
+            next.packets[at] = addressed(p, a, b);
+            count += 1;
+        }
+        b += 1;
+    }
+    next.count = count;
+    next
+}

@@ -1,0 +1,215 @@
+// Rows: looking for a station, keeping entries, the row of an accepted reply, and taking a station out of many rows.
+ghost use mathlib.Core.Path.{_≡_};
+ghost use mathlib.Core.List.{[], _∷_, _++_, map};
+ghost use Prim.Native.Nat.{ℕ, _+_, _^_, _<_, _≤_};
+ghost use lib.ListN.{getD};
+ghost use Rattle.base.specs.Choice.{if_then_else_};
+ghost use Rattle.base.specs.Lists.{someIn, keep, tabulate, indexOf};
+ghost use Rattle.model.specs.Memory.{place, names, without, under, put, withRoom};
+ghost use Rattle.model.specs.Calls.{bit, empties, takeOut, removes, emptied};
+ghost use Rattle.network.specs.View.{zeroRow, successor, entryOf, rowOf, keeps};
+use crate::Row;
+use crate::places::place;
+use label::Label;
+
+// The place of the first of so many entries that names j, or their number where none does.
+pub fn find(row: Row, count: usize, j: u8) -> usize
+    requires { ⌜ count ≤ 4 ⌝ }
+    ensures { λ r. ⌜ r ≡ indexOf (names j) (tabulate count (entryOf row)) ⌝ }
+{
+    let mut k = 0;
+    while k < count {
+        let station = row.stations[k];
+        if station == j {
+            return k;
+        }
+        k += 1;
+    }
+    k
+}
+
+// The row with one more entry.
+fn push(row: Row, station: u8, label: Label) -> Row
+    requires { ⌜ row .count < 4 ⌝ }
+    ensures { λ r. ⌜ rowOf r ≡ rowOf row ++ (successor station label ∷ []) ⌝ }
+{
+    let count = row.count;
+    let at = count as usize;
+    let mut next = row;
+    next.stations[at] = station;
+    next.labels[at] = label;
+    next.count = count + 1;
+    next
+}
+
+// Which entries stay in a row.
+pub enum Keep {
+    // Those whose label this one is above.
+    Under(Label),
+    // Those that don't name this station.
+    Without(u8),
+}
+
+// Whether an entry stays.
+fn keeps(test: Keep, station: u8, label: Label) -> bool
+    ensures { λ r. ⌜ r ≡ keeps test (successor station label) ⌝ }
+{
+    match test {
+        Keep::Under(g) => label::is_above(g, label),
+        Keep::Without(j) => j != station,
+    }
+}
+
+// The entries that stay.
+pub fn kept(row: Row, test: Keep) -> Row
+    requires { ⌜ row .count ≤ 4 ⌝ }
+    ensures { λ r. ⌜ rowOf r ≡ keep (keeps test) (rowOf row) ⌝ }
+{
+    let count = row.count as usize;
+    let mut next = row;
+    next.count = 0;
+    let mut k = 0;
+    while k < count {
+        let station = row.stations[k];
+        let label = row.labels[k];
+        if keeps(test, station, label) {
+            next = push(next, station, label);
+        }
+        k += 1;
+    }
+    next
+}
+
+// The row with room for one more: the first entry leaves a full row.
+fn with_room(row: Row) -> Row
+    requires { ⌜ row .count ≤ 4 ⌝ }
+    ensures { λ r. ⌜ rowOf r ≡ withRoom (rowOf row) ⌝ }
+{
+    if row.count < 4 {
+        return row;
+    }
+    let x = row.labels[1];
+    let y = row.labels[2];
+    let z = row.labels[3];
+    let labels = [x, y, z, z];
+    let a = row.stations[1];
+    let b = row.stations[2];
+    let c = row.stations[3];
+    let stations = [a, b, c, c];
+    Row {
+        labels: labels,
+        stations: stations,
+        count: 3,
+    }
+}
+
+// The row with the entry in the place of the one that names its station, or last.
+fn put(row: Row, station: u8, label: Label) -> Row
+    requires { ⌜ row .count ≤ 4 ⌝ }
+    ensures { λ r. ⌜ rowOf r ≡ put (successor station label) (rowOf row) ⌝ }
+{
+    let count = row.count as usize;
+    let at = find(row, count, station);
+    if count <= at {
+        return push(with_room(row), station, label);
+    }
+    let mut next = row;
+    next.stations[at] = station;
+    next.labels[at] = label;
+    next
+}
+
+// The row of a station that takes the label g by a reply with the label v from j.
+pub fn adopted(row: Row, g: Label, j: u8, v: Label) -> Row
+    requires { ⌜ row .count ≤ 4 ⌝ }
+    ensures { λ r. ⌜ rowOf r ≡ put (successor j v) (under g (rowOf row)) ⌝ }
+{
+    put(kept(row, Keep::Under(g)), j, v)
+}
+
+// A row that j left, whether it stood there, and whether that emptied the row.
+pub struct Loss {
+    pub row: Row,
+    pub removed: bool,
+    pub emptied: bool,
+}
+
+// The row without j.
+pub fn lose(row: Row, j: u8) -> Loss
+    requires { ⌜ row .count ≤ 4 ⌝ }
+    ensures row { λ r. ⌜ rowOf (r .row) ≡ without (names j) (rowOf row) ⌝ }
+    ensures removed { λ r. ⌜ r .removed ≡ someIn (names j) (rowOf row) ⌝ }
+    ensures emptied { λ r. ⌜ r .emptied ≡ empties (names j) (rowOf row) ⌝ }
+{
+    let kept = kept(row, Keep::Without(j));
+    let left = kept.count;
+    if left == row.count {
+        return Loss {
+            row: kept,
+            removed: false,
+            emptied: false,
+        };
+    }
+    Loss {
+        row: kept,
+        removed: true,
+        emptied: left == 0,
+    }
+}
+
+// Whether destination t is in the mask.
+fn bit(mask: u16, t: u8) -> bool
+    requires { ⌜ t < 16 ⌝ }
+    ensures { λ r. ⌜ r ≡ bit mask t ⌝ }
+{
+    (mask >> t) & 1 == 1
+}
+
+// The mask of destinations below t, with t too if yes.
+fn marked(mask: u16, t: u8, yes: bool) -> u16
+    requires { ⌜ (t < 16) × (mask < 2 ^ t) ⌝ }
+    ensures { λ r. ⌜ r ≡ mask + (if yes then 2 ^ t else 0) ⌝ }
+{
+    if yes {
+        return mask | (1 << t);
+    }
+    mask
+}
+
+// The rows after a station left some of them, the mask of those that this emptied, and whether it stood in any.
+pub struct Cut {
+    pub rows: [Row; 256],
+    pub emptied: u16,
+    pub removed: bool,
+}
+
+// The rows with j taken out of those that i holds for the masked destinations below n.
+pub fn take_out(rows: [Row; 256], i: u8, j: u8, n: u8, mask: u16) -> Cut
+    requires { ⌜ (i < 16) × (n ≤ 16) ⌝ }
+    requires { ⌜ ((t : ℕ) → t < n → getD rows (place i t) zeroRow .count ≤ 4) ⌝ }
+    ensures rows { λ r. ⌜ map rowOf (r .rows) ≡ takeOut (bit mask) (names j) i n (map rowOf rows) ⌝ }
+    ensures emptied { λ r. ⌜ r .emptied ≡ emptied (bit mask) (names j) i n (map rowOf rows) ⌝ }
+    ensures removed { λ r. ⌜ r .removed ≡ removes (bit mask) (names j) i n (map rowOf rows) ⌝ }
+{
+    let mut next = rows;
+    let mut emptied = 0;
+    let mut removed = false;
+    let mut t = 0;
+    while t < n {
+        if bit(mask, t) {
+            let at = place(i, t);
+            let row = rows[at];
+            let loss = lose(row, j);
+            let kept = loss.row;
+            next[at] = kept;
+            emptied = marked(emptied, t, loss.emptied);
+            removed = removed | loss.removed;
+        }
+        t += 1;
+    }
+    Cut {
+        rows: next,
+        emptied: emptied,
+        removed: removed,
+    }
+}
