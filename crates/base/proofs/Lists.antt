@@ -142,7 +142,7 @@ module _ {A : Type 0} (f : A → Bool) where
       let h = keep-length l in
       choose (λ (z : List A). length z ≤ suc (length l)) (f y) (λ e. omega arith) (λ e. omega arith)
 
--- One more element.
+-- Whether some element passes, of a list with one more.
 some-more : {A : Type 0} (t : A → Bool) (l : List A) (x : A) → someIn t (l ++ (x ∷ [])) ≡ someIn t l || t x
 unfolding someIn
 some-more t [] x = or-false (t x)
@@ -190,7 +190,7 @@ pub distinct-tail : (l : List ℕ) → distinct l ≡ true → distinct (tail l)
 distinct-tail [] d = d
 distinct-tail (x ∷ l) d = distinct-rest x l d
 
--- The same with its last.
+-- The same as the absence of its last from the rest.
 pub distinct-more : (l : List ℕ) (x : ℕ) → distinct (l ++ (x ∷ [])) ≡ distinct l && not (someIn (eqb x) l)
 unfolding distinct someIn
 distinct-more [] x = refl

@@ -58,6 +58,10 @@ keep-distinct f (e ∷ r) d =
         let (y, k, p) = Memᴰ·of-map (λ e. e .station) (keep f r) m in
         subst (λ z. List·Memᴰ z (stations r)) p (station-mem r (keep-mem f r k .0))
 
+tail-stations : (l : Row) → stations (tail l) ≡ tail (stations l)
+tail-stations [] = refl
+tail-stations (x ∷ l) = refl
+
 -- A row with room for one more.
 module _ (r : Row) where
   -- What holds of the row, and of the row without its first entry, holds of the row with room.
@@ -77,10 +81,6 @@ module _ (r : Row) where
   unfolding withRoom
   room-length h =
       choose (λ (z : Row). length z ≤ 3) (ltb (length r) 4) (λ q. omega (arith, ltb-true)) (λ q. length-tail r 3 h)
-
-  tail-stations : (l : Row) → stations (tail l) ≡ tail (stations l)
-  tail-stations [] = refl
-  tail-stations (x ∷ l) = refl
 
   room-mem : {x : ℕ} → List·Memᴰ x (stations (withRoom r)) → List·Memᴰ x (stations r)
   room-mem {x} =

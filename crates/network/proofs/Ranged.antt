@@ -45,15 +45,15 @@ module _ (n : ℕ) (p : Packet) (ok : BodyOk n (bodyOf p)) where
   carried-kinds : (0 < p .kind) × (p .kind < 4)
   carried-kinds = go (against (p .kind) 0) (against (p .kind) 4)
     where
-      other : (p .kind ≢ 1) × (p .kind ≢ 2) × (p .kind ≢ 3) → ⊥
-      other h = subst (BodyOk n) (body-other p (h .0) (h .1) (h .2)) ok
+      other : ((k : ℕ) → 0 < k → k < 4 → p .kind ≢ k) → ⊥
+      other h = subst (BodyOk n) (body-other p (h 1 (omega arith) (omega arith)) (h 2 (omega arith) (omega arith)) (h 3 (omega arith) (omega arith))) ok
 
       go : Against (p .kind) 0 → Against (p .kind) 4 → (0 < p .kind) × (p .kind < 4)
       go (less l) b = absurd (omega arith)
-      go (equal e) b = absurd (other ((λ q. omega arith), (λ q. omega arith), (λ q. omega arith)))
+      go (equal e) b = absurd (other (λ k h l q. omega arith))
       go (more l) (less m) = (l, m)
-      go (more l) (equal e) = absurd (other ((λ q. omega arith), (λ q. omega arith), (λ q. omega arith)))
-      go (more l) (more m) = absurd (other ((λ q. omega arith), (λ q. omega arith), (λ q. omega arith)))
+      go (more l) (equal e) = absurd (other (λ k h l q. omega arith))
+      go (more l) (more m) = absurd (other (λ k h l q. omega arith))
 
   carried-head : p .kind ≢ 3 → HeadOk n (p .source) (p .number .0) (p .destination) (p .label)
   unfolding requestOf replyOf

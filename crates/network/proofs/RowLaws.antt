@@ -91,11 +91,9 @@ kept-shorter row next t e = kept-short next t (row .count) (entryOf row) e
 
 -- A full row without its first entry.
 pub row-first-left : (row : Row) → row .count ≡ 4
-    → rowOf (record {
-      labels = getD (row .labels) 1 (label 0 0 0) ∷ getD (row .labels) 2 (label 0 0 0) ∷ getD (row .labels) 3 (label 0 0 0) ∷ getD (row .labels) 3 (label 0 0 0) ∷ [];
-      stations = getD (row .stations) 1 0 ∷ getD (row .stations) 2 0 ∷ getD (row .stations) 3 0 ∷ getD (row .stations) 3 0 ∷ [];
-      count = 3;
-    }) ≡ tail (rowOf row)
+    → let l : ℕ → Label = λ k. getD (row .labels) k (label 0 0 0) in
+    let s : ℕ → ℕ = λ k. getD (row .stations) k 0 in
+    rowOf (record { labels = l 1 ∷ l 2 ∷ l 3 ∷ l 3 ∷ []; stations = s 1 ∷ s 2 ∷ s 3 ∷ s 3 ∷ []; count = 3 }) ≡ tail (rowOf row)
 unfolding rowOf entryOf tabulate
 row-first-left row full = rw full refl
 
