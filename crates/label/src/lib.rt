@@ -2,7 +2,7 @@
 ghost use mathlib.Core.Path.{_≡_};
 ghost use mathlib.Core.Bool.{true};
 ghost use Prim.Native.Nat.{_+_, _*_, _≤_};
-ghost use Rattle.label.specs.Label.{inRange, above, fitting, next, split, newLabel, newLabelCall, outcome};
+ghost use Rattle.label.specs.Label.{isUnassigned, inRange, above, fitting, next, split, newLabel, newLabelCall, outcome};
 
 // A destination's sequence number.
 pub struct SequenceNumber(pub u64);
@@ -28,6 +28,16 @@ pub enum NewLabel {
     Overflow,
 }
 
+// Whether l is unassigned.
+pub fn is_unassigned(l: Label) -> bool
+    ensures { λ r. ⌜ r ≡ isUnassigned l ⌝ }
+{
+    let s = l.s.0;
+    let m = l.m;
+    let d = l.d;
+    (s == 0) & (m == 1) & (d == 1)
+}
+
 // Whether l is unassigned, or has s > 0 and m < d.
 pub fn in_range(l: Label) -> bool
     ensures { λ r. ⌜ r ≡ inRange l ⌝ }
@@ -42,7 +52,7 @@ pub fn in_range(l: Label) -> bool
 }
 
 // The whole sum.
-fn sum(a: u32, b: u32) -> u64
+pub fn sum(a: u32, b: u32) -> u64
     ensures { λ r. ⌜ r ≡ a + b ⌝ }
 {
     (a as u64) + (b as u64)
@@ -102,7 +112,7 @@ fn split_of(c: Label, v: Label) -> NewLabel
 }
 
 // New label, of labels in range.
-fn new_label_in_range(a: Label, c: Label, v: Label) -> NewLabel
+pub fn new_label_in_range(a: Label, c: Label, v: Label) -> NewLabel
     requires { ⌜ (inRange c ≡ true) × (inRange v ≡ true) ⌝ }
     ensures { λ r. ⌜ outcome r ≡ newLabel a c v ⌝ }
 {

@@ -9,3 +9,4 @@ pub mod Delivery
 pub mod Steps
 pub mod Tracing
 pub mod Walking
+pub mod EventLaws

@@ -2,22 +2,22 @@
 use Prim.Native.Nat.{ℕ, _<_}
 use mathlib.Core.Path.{_≡_, refl, sym, subst}
 use mathlib.Core.Logic.{_≢_}
-use mathlib.Core.Bool.{Bool, true, false, not}
+use mathlib.Core.Bool.{Bool, true, false, not, _&&_}
 use mathlib.Core.List.{List}
 use lib.ListN.{getD, set}
 use lib.Seq.{getD-set-other}
 use lib.Dec.{eqb}
 use native.Mathlib.Omega.{arith}
-use borrow.Author.Tests.{eqb-true, eqb-false, ne-eqb, not-true, eq-eqb}
+use borrow.Author.Tests.{eqb-true, eqb-false, ne-eqb, not-true}
 use Rattle.base.proofs.Flags.{both, passes, negates}
 use Rattle.base.proofs.Lists.{set-either}
 use Rattle.model.specs.Memory.{pairPlace, linkIn}
 
 module _ (l : List Bool) (a b : ℕ) where
-  -- No station has a link to itself; two stations have theirs at their place.
-  pub link-self : a ≡ b → linkIn l a b ≡ false
+  -- A link is one of two stations, at their place.
+  pub link-at : (at : ℕ) → at ≡ pairPlace a b → not (eqb a b) && getD l at false ≡ linkIn l a b
   unfolding linkIn
-  link-self e = rw (eq-eqb a b e)
+  link-at at e = rw e
 
   pub link-pair : a ≢ b → linkIn l a b ≡ getD l (pairPlace a b) false
   unfolding linkIn

@@ -1,13 +1,20 @@
 -- A call by the tests for its refusals, one after the other.
-use Prim.Native.Nat.{ℕ, _≤_, _<_}
+use Prim.Native.Nat.{ℕ, _+_, _≤_, _<_}
 use mathlib.Core.Path.{_≡_}
+use mathlib.Core.Logic.{_≢_}
 use mathlib.Core.Bool.{Bool, true, false, not, _||_}
+use mathlib.Core.List.{List, [], _∷_}
+use lib.ListN.{length, length-map, length-append}
 use lib.Dec.{leb, eqb}
 use native.Mathlib.Omega.{arith}
-use borrow.Author.Tests.{leb-true, eqb-false, not-false}
-use Rattle.base.proofs.Flags.{both, neither}
-use Rattle.model.specs.Memory.{fresh, sizeInRange}
-use Rattle.model.specs.Calls.{effect, Result, refused, accepted, refuse_when_otherwise_, opening}
+use borrow.Author.Tests.{lt-ltb, le-ltb, leb-true, leb-false, eqb-false, not-false}
+use Rattle.base.proofs.Flags.{both, neither, choose}
+use Rattle.base.proofs.Loops.{below-length}
+use Rattle.model.specs.Memory.{Packet, Network, linkUp, numberAt, isActive, packetAt, setLink, setRow, setActive, setAir}
+use Rattle.model.specs.Memory.{fresh, airLimit, sizeInRange, memoryInRange}
+use Rattle.model.specs.Calls.{Call, Open, Up, Down, Solicit, GiveUp, Expire, Deliver, Lose, Duplicate}
+use Rattle.model.specs.Calls.{effect, Result, refused, accepted, refuse_when_otherwise_, limited, notStation, notPair, notPacket}
+use Rattle.model.specs.Calls.{send, sending, neighbours, copies, errors, down, solicit, removePacket, deliver, opening, step}
 
 module _ (number : ℕ) (case : Bool) (rest : Result) where
   pub refuse-holds : case ≡ true → refuse number when case otherwise rest ≡ refused number
@@ -20,13 +27,17 @@ module _ (number : ℕ) (case : Bool) (rest : Result) where
 
 -- Open.
 module _ (n start : ℕ) where
-  pub opening-refused : not (sizeInRange n) || eqb start 0 ≡ true → opening n start ≡ refused 1
-  unfolding opening
-  opening-refused e = refuse-holds 1 _ _ e
+  pub open-1 : (net : Network) → not (sizeInRange n) || eqb start 0 ≡ true → step (Open n start) net ≡ refused 1
+  unfolding step opening
+  open-1 net e = refuse-holds 1 _ _ e
 
   pub opening-accepted : not (sizeInRange n) || eqb start 0 ≡ false → opening n start ≡ accepted (effect 0 0 (fresh n start))
   unfolding opening
   opening-accepted e = refuse-passes 1 _ _ e
+
+  pub open-accepted : (net : Network) → not (sizeInRange n) || eqb start 0 ≡ false → step (Open n start) net ≡ accepted (effect 0 0 (fresh n start))
+  unfolding step
+  open-accepted net e = opening-accepted e
 
   -- What its test tells.
   pub opening-tells : not (sizeInRange n) || eqb start 0 ≡ false → (2 ≤ n) × (n ≤ 16) × (0 < start)
@@ -36,3 +47,155 @@ module _ (n start : ℕ) where
       let x = both (leb 2 n) (leb n 16) (not-false (sizeInRange n) (w .0)) in
       let z = eqb-false start 0 (w .1) in
       (leb-true 2 n (x .0), leb-true n 16 (x .1), omega (arith, z))
+
+-- What the tests for 2 and 6 tell where they pass.
+module _ (net : Network) where
+  pub station-tells : (a : ℕ) → notStation net a ≡ false → a < net .n
+  unfolding notStation
+  station-tells a e = leb-false (net .n) a e
+
+  pub pair-tells : (a b : ℕ) → notPair net a b ≡ false → (a < net .n) × (b < net .n) × (a ≢ b)
+  unfolding notPair
+  pair-tells a b e =
+      let w = neither (notStation net a || notStation net b) (eqb a b) e in
+      let x = neither (notStation net a) (notStation net b) (w .0) in
+      (station-tells a (x .0), station-tells b (x .1), eqb-false a b (w .1))
+
+  pub packet-tells : (k : ℕ) → notPacket net k ≡ false → k < length (net .air)
+  unfolding notPacket
+  packet-tells k e = leb-false (length (net .air)) k e
+
+-- The calls on memory: all but Open.
+abbrev pub OnMemory : Call → Type 0
+OnMemory (Open n start) = ⊥
+OnMemory (Up a b) = Unit {0}
+OnMemory (Down a b) = Unit {0}
+OnMemory (Solicit a t) = Unit {0}
+OnMemory (GiveUp a) = Unit {0}
+OnMemory (Expire a t) = Unit {0}
+OnMemory (Deliver k) = Unit {0}
+OnMemory (Lose k) = Unit {0}
+OnMemory (Duplicate k) = Unit {0}
+
+-- They test 1 first.
+pub out-of-range : (c : Call) (net : Network) → OnMemory c → memoryInRange net ≡ false → step c net ≡ refused 1
+unfolding step refuse_when_otherwise_
+out-of-range (Open n start) net k h = absurd k
+out-of-range (Up a b) net k h = rw h
+out-of-range (Down a b) net k h = rw h
+out-of-range (Solicit a t) net k h = rw h
+out-of-range (GiveUp a) net k h = rw h
+out-of-range (Expire a t) net k h = rw h
+out-of-range (Deliver k) net j h = rw h
+out-of-range (Lose k) net j h = rw h
+out-of-range (Duplicate k) net j h = rw h
+
+-- Each call by its later tests, on memory in range.
+module _ (net : Network) (r : memoryInRange net ≡ true) (a b : ℕ) where
+  pub up-2 : notPair net a b ≡ true → step (Up a b) net ≡ refused 2
+  unfolding step refuse_when_otherwise_
+  up-2 h = simp (r, h)
+
+  pub up-3 : notPair net a b ≡ false → linkUp net a b ≡ true → step (Up a b) net ≡ refused 3
+  unfolding step refuse_when_otherwise_
+  up-3 h k = simp (r, h, k)
+
+  pub up-accepted : notPair net a b ≡ false → linkUp net a b ≡ false → step (Up a b) net ≡ accepted (effect 0 0 (setLink a b true net))
+  unfolding step refuse_when_otherwise_
+  up-accepted h k = simp (r, h, k)
+
+  pub down-2 : notPair net a b ≡ true → step (Down a b) net ≡ refused 2
+  unfolding step refuse_when_otherwise_
+  down-2 h = simp (r, h)
+
+  pub down-3 : notPair net a b ≡ false → linkUp net a b ≡ false → step (Down a b) net ≡ refused 3
+  unfolding step refuse_when_otherwise_
+  down-3 h k = simp (r, h, k)
+
+  pub down-limited : notPair net a b ≡ false → linkUp net a b ≡ true → step (Down a b) net ≡ limited (down a b net)
+  unfolding step refuse_when_otherwise_
+  down-limited h k = simp (r, h, k)
+
+  pub solicit-2 : notPair net a b ≡ true → step (Solicit a b) net ≡ refused 2
+  unfolding step refuse_when_otherwise_
+  solicit-2 h = simp (r, h)
+
+  pub solicit-4 : notPair net a b ≡ false → isActive net a ≡ true → step (Solicit a b) net ≡ refused 4
+  unfolding step refuse_when_otherwise_
+  solicit-4 h k = simp (r, h, k)
+
+  pub solicit-8 : notPair net a b ≡ false → isActive net a ≡ false → leb 4_294_967_295 (numberAt net a) ≡ true → step (Solicit a b) net ≡ refused 8
+  unfolding step refuse_when_otherwise_
+  solicit-8 h k l = simp (r, h, k, l)
+
+  pub solicit-limited : notPair net a b ≡ false → isActive net a ≡ false → leb 4_294_967_295 (numberAt net a) ≡ false
+      → step (Solicit a b) net ≡ limited (solicit a b net)
+  unfolding step refuse_when_otherwise_
+  solicit-limited h k l = simp (r, h, k, l)
+
+  pub expire-2 : notPair net a b ≡ true → step (Expire a b) net ≡ refused 2
+  unfolding step refuse_when_otherwise_
+  expire-2 h = simp (r, h)
+
+  pub expire-accepted : notPair net a b ≡ false → step (Expire a b) net ≡ accepted (effect 0 0 (setRow a b [] net))
+  unfolding step refuse_when_otherwise_
+  expire-accepted h = simp (r, h)
+
+module _ (net : Network) (r : memoryInRange net ≡ true) (a : ℕ) where
+  pub give-up-2 : notStation net a ≡ true → step (GiveUp a) net ≡ refused 2
+  unfolding step refuse_when_otherwise_
+  give-up-2 h = simp (r, h)
+
+  pub give-up-5 : notStation net a ≡ false → isActive net a ≡ false → step (GiveUp a) net ≡ refused 5
+  unfolding step refuse_when_otherwise_
+  give-up-5 h k = simp (r, h, k)
+
+  pub give-up-accepted : notStation net a ≡ false → isActive net a ≡ true → step (GiveUp a) net ≡ accepted (effect 0 0 (setActive a false net))
+  unfolding step refuse_when_otherwise_
+  give-up-accepted h k = simp (r, h, k)
+
+module _ (net : Network) (r : memoryInRange net ≡ true) (k : ℕ) where
+  pub deliver-6 : notPacket net k ≡ true → step (Deliver k) net ≡ refused 6
+  unfolding step refuse_when_otherwise_
+  deliver-6 h = simp (r, h)
+
+  pub deliver-limited : notPacket net k ≡ false → step (Deliver k) net ≡ limited (deliver k net)
+  unfolding step refuse_when_otherwise_
+  deliver-limited h = simp (r, h)
+
+  pub lose-6 : notPacket net k ≡ true → step (Lose k) net ≡ refused 6
+  unfolding step refuse_when_otherwise_
+  lose-6 h = simp (r, h)
+
+  pub lose-accepted : notPacket net k ≡ false → step (Lose k) net ≡ accepted (effect 0 0 (removePacket k net))
+  unfolding step refuse_when_otherwise_
+  lose-accepted h = simp (r, h)
+
+  pub duplicate-6 : notPacket net k ≡ true → step (Duplicate k) net ≡ refused 6
+  unfolding step refuse_when_otherwise_
+  duplicate-6 h = simp (r, h)
+
+  pub duplicate-limited : notPacket net k ≡ false → step (Duplicate k) net ≡ limited (effect 0 0 (send (packetAt net k ∷ []) net))
+  unfolding step refuse_when_otherwise_
+  duplicate-limited h = simp (r, h)
+
+-- 7, by the packets in the air and those sent.
+module _ (answer : ℕ) (packets : List Packet) (net : Network) where
+  sending-length : length (sending answer packets net .net .air) ≡ length (net .air) + length packets
+  unfolding sending send setAir
+  sending-length = length-append (net .air) packets
+
+  pub sending-7 : airLimit < length (net .air) + length packets → limited (sending answer packets net) ≡ refused 7
+  unfolding limited
+  sending-7 h = refuse-holds 7 _ _ (lt-ltb airLimit (length (sending answer packets net .net .air)) (omega (arith, sending-length)))
+
+  pub sending-accepted : length (net .air) + length packets ≤ airLimit → limited (sending answer packets net) ≡ accepted (sending answer packets net)
+  unfolding limited
+  sending-accepted h = refuse-passes 7 _ _ (le-ltb airLimit (length (sending answer packets net .net .air)) (omega (arith, sending-length)))
+
+-- A station sends no more errors than there are stations.
+pub errors-length : (net : Network) (a mask : ℕ) → length (errors net a mask) ≤ net .n
+unfolding errors copies neighbours
+errors-length net a mask =
+    choose (λ (z : List Packet). length z ≤ net .n) (eqb mask 0) {a = []} (λ e. omega arith)
+    (λ e. rw length-map (below-length (linkUp net a) (net .n)))

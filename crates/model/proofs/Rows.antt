@@ -1,6 +1,6 @@
 -- Laws of rows: entries kept, put and taken out.
 use Prim.Native.Nat.{ℕ, zero, suc, _+_, _^_, _≤_, _<_}
-use mathlib.Core.Path.{_≡_, refl, sym, ap, subst, _∙_}
+use mathlib.Core.Path.{_≡_, refl, sym, ap, ap₂, subst, _∙_}
 use mathlib.Core.Logic.{_⊎_, inl, inr, _≢_}
 use mathlib.Core.Bool.{Bool, true, false, _&&_}
 use mathlib.Core.List.{List, [], _∷_, _++_, map-append, tail}
@@ -12,14 +12,14 @@ use lib.Dec.{ltb, eqb}
 use native.Mathlib.Omega.{arith}
 use borrow.Author.Tests.{lt-ltb, le-ltb, ltb-true, eqb-true, eqb-false, not-true}
 use Rattle.base.specs.Choice.{if_then_else_}
-use Rattle.base.specs.Lists.{someIn, keep, indexOf, distinct}
+use Rattle.base.specs.Lists.{allBelow, someIn, keep, indexOf, distinct}
 use Rattle.base.proofs.Flags.{choose, cases, Against, less, equal, more, against}
-use Rattle.base.proofs.Lists.{none-in-at, keep-mem, mem-tail, length-tail, set-either}
+use Rattle.base.proofs.Lists.{all-below-at, none-in-at, keep-mem, mem-tail, length-tail, set-either}
 use Rattle.base.proofs.Lists.{distinct-cons, distinct-first, distinct-rest, distinct-tail, distinct-last}
 use Rattle.label.specs.declared.Label.{Label}
 use Rattle.label.specs.Label.{_≻_}
 use Rattle.model.specs.Memory.{Successor, Row, place, rowIn, names, stations, without, under, replace, withRoom, put}
-use Rattle.model.specs.Calls.{takeOut, empties, emptied}
+use Rattle.model.specs.Calls.{takeOut, empties, emptied, everyDestination, bit}
 
 station-mem : (r : Row) {e : Successor} → List·Memᴰ e r → List·Memᴰ (e .station) (stations r)
 station-mem r m = Memᴰ·map (λ e. e .station) m
@@ -210,3 +210,46 @@ emptied-below masked leaves i (suc t) rows = go (masked t && empties leaves (row
     go : (b : Bool) → emptied masked leaves i t rows < 2 ^ t → emptied masked leaves i t rows + (if b then 2 ^ t else 0) < 2 ^ suc t
     go true h = omega arith
     go false h = omega arith
+
+-- Taking out reads the test only below c, and i's rows only.
+module _ (masked other : ℕ → Bool) (leaves : Successor → Bool) (i : ℕ) (rows : List Row) where
+  takeOut-same : (c : ℕ) → ((t : ℕ) → t < c → masked t ≡ other t) → takeOut masked leaves i c rows ≡ takeOut other leaves i c rows
+  unfolding takeOut
+  takeOut-same zero h = refl
+  takeOut-same (suc c) h = rw (h c (omega arith), takeOut-same c (λ t l. h t (omega arith)))
+
+  emptied-same : (c : ℕ) → ((t : ℕ) → t < c → masked t ≡ other t) → emptied masked leaves i c rows ≡ emptied other leaves i c rows
+  unfolding emptied
+  emptied-same zero h = refl
+  emptied-same (suc c) h = rw (h c (omega arith), emptied-same c (λ t l. h t (omega arith)))
+
+pub emptied-rows : (masked : ℕ → Bool) (leaves : Successor → Bool) (i : ℕ) (rows others : List Row) (c : ℕ)
+    → ((t : ℕ) → t < c → rowIn rows i t ≡ rowIn others i t) → emptied masked leaves i c rows ≡ emptied masked leaves i c others
+unfolding emptied
+emptied-rows masked leaves i rows others zero h = refl
+emptied-rows masked leaves i rows others (suc c) h =
+    ap₂ (λ (x : ℕ) (r : Row). x + (if masked c && empties leaves r then 2 ^ c else 0))
+    (emptied-rows masked leaves i rows others c (λ t l. h t (omega arith))) (h c (omega arith))
+
+-- Another station's rows are as they were.
+pub takeOut-other : (masked : ℕ → Bool) (leaves : Successor → Bool) (i j : ℕ) (rows : List Row) → i ≢ j → (c t : ℕ) → c ≤ 16 → t < 16
+    → rowIn (takeOut masked leaves i c rows) j t ≡ rowIn rows j t
+unfolding takeOut
+takeOut-other masked leaves i j rows h zero t hc ht = refl
+takeOut-other masked leaves i j rows h (suc c) t hc ht =
+    let before = takeOut-other masked leaves i j rows h c t (omega arith) ht in
+    choose (λ z. rowIn z j t ≡ rowIn rows j t) (masked c)
+    (λ q. getD-set-other (takeOut masked leaves i c rows) (place i c) (place j t) _ [] (λ e. h (omega arith)) ∙ before)
+    (λ q. before)
+
+-- The mask of all bits has every destination.
+full-mask : (t : ℕ) → t < 16 → bit 65535 t ≡ everyDestination t
+unfolding everyDestination allBelow bit
+full-mask t h = all-below-at 16 (bit 65535) refl t h
+
+module _ (leaves : Successor → Bool) (i c : ℕ) (rows : List Row) (h : c ≤ 16) where
+  pub takeOut-full : takeOut (bit 65535) leaves i c rows ≡ takeOut everyDestination leaves i c rows
+  takeOut-full = takeOut-same (bit 65535) everyDestination leaves i rows c (λ t l. full-mask t (omega arith))
+
+  pub emptied-full : emptied (bit 65535) leaves i c rows ≡ emptied everyDestination leaves i c rows
+  emptied-full = emptied-same (bit 65535) everyDestination leaves i rows c (λ t l. full-mask t (omega arith))

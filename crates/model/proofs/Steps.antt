@@ -6,19 +6,19 @@ use mathlib.Core.List.{List, [], _∷_}
 use lib.ListN.{length, set, length-append, length-take, length-drop}
 use lib.Dec.{eqb}
 use native.Mathlib.Omega.{arith}
-use borrow.Author.Tests.{ltb-false, leb-false, not-false}
-use Rattle.base.proofs.Flags.{neither, choose}
+use borrow.Author.Tests.{ltb-false, not-false}
+use Rattle.base.proofs.Flags.{choose}
 use Rattle.base.proofs.Lists.{mem-at}
 use Rattle.model.specs.Memory.{Network, zeroPacket, setLink, setRow, setActive}
 use Rattle.model.specs.Memory.{setRows, setLinks, setNumbers, setSoughts, setActives, setAir}
 use Rattle.model.specs.Memory.{fresh, sizeInRange, memoryInRange}
 use Rattle.model.specs.Calls.{Call, Open, Up, Down, Solicit, GiveUp, Expire, Deliver, Lose, Duplicate}
-use Rattle.model.specs.Calls.{Effect, effect, Result, refused, accepted, after, refuse_when_otherwise_, limited, notStation, notPair, notPacket}
+use Rattle.model.specs.Calls.{Effect, effect, Result, refused, accepted, after, refuse_when_otherwise_, limited, notPair, notPacket}
 use Rattle.model.specs.Calls.{solicit, removePacket, opening, step, run}
 use Rattle.model.proofs.Invariant.{Good, good-numbers, good-actives, good-row, good-sought, cell-empty}
 use Rattle.model.proofs.Range.{Sized, Kept, kept-in-range, in-range-kept}
 use Rattle.model.proofs.Fresh.{fresh-kept}
-use Rattle.model.proofs.Refusals.{opening-tells}
+use Rattle.model.proofs.Refusals.{opening-tells, pair-tells, packet-tells}
 use Rattle.model.proofs.Sending.{air-one, good-send, good-sending, copies-ok, good-remove, good-up, good-down}
 use Rattle.model.proofs.Delivery.{good-deliver}
 
@@ -69,16 +69,11 @@ module _ {Made : Type 0} (net : Network) (kept : Kept Made net) where
   -- Tests 1 and 2, and tests 1 and 6.
   kept-pair : (a b : ℕ) (r : Result) → (a < net .n → b < net .n → Kept Made (after net r))
       → Kept Made (after net (refuse 1 when not (memoryInRange net) otherwise refuse 2 when notPair net a b otherwise r))
-  unfolding notPair notStation
-  kept-pair a b r h = kept-refuse 1 _ _ (λ e. kept-refuse 2 _ r (λ q.
-      let w = neither (notStation net a || notStation net b) (eqb a b) q in
-      let x = neither (notStation net a) (notStation net b) (w .0) in
-      h (leb-false (net .n) a (x .0)) (leb-false (net .n) b (x .1))))
+  kept-pair a b r h = kept-refuse 1 _ _ (λ e. kept-refuse 2 _ r (λ q. let w = pair-tells net a b q in h (w .0) (w .1)))
 
   kept-packet : (k : ℕ) (r : Result) → (k < length (net .air) → Kept Made (after net r))
       → Kept Made (after net (refuse 1 when not (memoryInRange net) otherwise refuse 6 when notPacket net k otherwise r))
-  unfolding notPacket
-  kept-packet k r h = kept-refuse 1 _ _ (λ e. kept-refuse 6 _ r (λ q. h (leb-false (length (net .air)) k q)))
+  kept-packet k r h = kept-refuse 1 _ _ (λ e. kept-refuse 6 _ r (λ q. h (packet-tells net k q)))
 
 module _ {Made : Type 0} (net : Network) (kept : Kept Made net) where
   pub kept-step : (c : Call) → Kept Made (after net (step c net))

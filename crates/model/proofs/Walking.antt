@@ -152,7 +152,7 @@ module _ (net : Network) (kept : Kept (Unit {0}) net) (a t : ℕ) (ha : a < net 
       subst (Followed net a t 0) (sym (trace-follows net a t (kept-in-range net kept) ha ht apart))
       (followed net t (hopLimit net) 0 a (λ w k. let h = walk-within net (kept .good) t ht w a ha k in omega arith))
 
-  walks-end : WalksEnd net a t
+  walks-end : WalksEnd net a t (trace net a t)
   walks-end =
       let g = traced-walk in
       record {
@@ -171,5 +171,5 @@ module _ (net : Network) (kept : Kept (Unit {0}) net) (a t : ℕ) (ha : a < net 
 
 pub loop-free : LoopFree
 unfolding LoopFree
-loop-free n start opened h calls net e a t =
-    walks-end net (subst (Kept (Unit {0})) (sym e) (kept-run calls (opened .net) (opened-kept n start opened h))) a t
+loop-free net r a t =
+    walks-end net (subst (Kept (Unit {0})) (sym (r .left)) (kept-run (r .calls) (r .opened .net) (opened-kept (r .n) (r .start) (r .opened) (r .opens)))) a t

@@ -1,4 +1,5 @@
 pub mod Memory
 pub mod Calls
 pub mod Walks
+pub mod Events
 pub mod Sample

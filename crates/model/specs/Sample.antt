@@ -5,7 +5,7 @@ use mathlib.Core.Bool.{not, _&&_}
 use mathlib.Core.List.{List, [], _∷_, _++_, map}
 use lib.ListN.{length}
 use lib.Dec.{eqb}
-use Rattle.base.specs.Lists.{allBelow, below, allIn, someIn, keep, isEmpty, distinct}
+use Rattle.base.specs.Lists.{allBelow, below, allIn, someIn, keep, isEmpty, tabulate, distinct}
 use Rattle.label.specs.declared.Label.{Label}
 use Rattle.label.specs.Label.{label, unassigned, isUnassigned, inRange, above, fitting, next, split, newLabel}
 use Rattle.model.specs.Memory.{Network, zeroLabel, zeroRecord, zeroPacket, linkIn, labelAt, rowAt}
@@ -13,14 +13,11 @@ use Rattle.model.specs.Memory.{setLabels, setRows, setRecords, setLinks,
 use Rattle.model.specs.Memory.{names, stations, without, under, replace, withRoom, put}
 use Rattle.model.specs.Memory.{successorInRange, rowInRange, recordInRange, ownInRange, cellInRange, stationInRange}
 use Rattle.model.specs.Memory.{headInRange, bodyInRange, packetInRange, airInRange, sizeInRange, memoryInRange}
-use Rattle.model.specs.Calls.{Call, Up, Solicit, Deliver, Lose, Result, refused, accepted, after, refuse_when_otherwise_, limited, notStation, notPair, notPacket, step}
+use Rattle.model.specs.Calls.{Result, refused, accepted, after, refuse_when_otherwise_, limited, notStation, notPair, notPacket, step}
 use Rattle.model.specs.Calls.{send, sending, neighbours, copies, solicit, removePacket, receive, deliver}
 use Rattle.model.specs.Calls.{recordOf, markPassed, replyTo, resets, atDestination, canReply, onwardLabel, onwardReset, onward, engage, onRequest}
 use Rattle.model.specs.Calls.{matches, cachedAt, adopt, settle, passesOn, passOn, onOutcome, onReply, nextOf, follow, trace}
-
-pub data Event : Type 0 where
-  calls : Call → Event
-  traces : (a t : ℕ) → Event
+use Rattle.model.specs.Events.{Event, calls, traces, noEvent, usesOne, notEvent, callOf, eventOf, eventAt, eventsOf}
 
 -- Of an event's line: the answer, the packets sent, the packets in the air after it, the hops.
 pub record Line : Type 0 where
@@ -65,12 +62,15 @@ printout (calls c ∷ events) net =
 printout (traces a t ∷ events) net =
     let rest = printout events net in
     record { lines = line (trace net a t .answer) 0 (length (net .air)) (trace net a t .hops) ∷ rest .lines; labels = rest .labels }
+printout (noEvent ∷ events) net =
+    let rest = printout events net in
+    record { lines = line 11 0 (length (net .air)) 0 ∷ rest .lines; labels = rest .labels }
 
--- "01 01 03 06 06 07 06 06 09" with their operands, for 3 stations and start 1.
+-- "010103060607060609 0001 0102 0200 0000 0000 0000 0000 0000 0200", for 3 stations and start 1.
 unfoldable pub script : List Event
 script =
-    calls (Up 0 1) ∷ calls (Up 1 2) ∷ calls (Solicit 2 0) ∷ calls (Deliver 0) ∷ calls (Deliver 0) ∷ calls (Lose 0) ∷ calls (Deliver 0) ∷ calls (Deliver 0)
-    ∷ traces 2 0 ∷ []
+    eventsOf (1 ∷ 1 ∷ 3 ∷ 6 ∷ 6 ∷ 7 ∷ 6 ∷ 6 ∷ 9 ∷ [])
+    (0 ∷ 1 ∷ 1 ∷ 2 ∷ 2 ∷ 0 ∷ 0 ∷ 0 ∷ 0 ∷ 0 ∷ 0 ∷ 0 ∷ 0 ∷ 0 ∷ 0 ∷ 0 ∷ 2 ∷ 0 ∷ [])
 
 unfoldable pub printed : Printout
 printed = record {
@@ -89,7 +89,7 @@ printed = record {
 }
 
 pub prints : printout script (fresh 3 1) ≡ printed
-unfolding printout labelLines script printed step after refuse_when_otherwise_ limited notStation notPair notPacket sizeInRange memoryInRange stationInRange airInRange
+unfolding printout labelLines script eventsOf eventAt eventOf callOf notEvent usesOne tabulate printed step after refuse_when_otherwise_ limited notStation notPair notPacket sizeInRange memoryInRange stationInRange airInRange
     cellInRange rowInRange recordInRange ownInRange headInRange bodyInRange packetInRange successorInRange allBelow below allIn someIn keep
     isEmpty distinct unassigned isUnassigned inRange above fitting next split newLabel zeroLabel zeroRecord zeroPacket linkIn setLabels
     setRows setRecords setLinks setNumbers setSoughts setActives setAir freshLabels freshRecord fresh names without under replace withRoom

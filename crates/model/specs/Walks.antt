@@ -8,7 +8,7 @@ use lib.ListN.{length}
 use Rattle.base.specs.Lists.{distinct}
 use Rattle.label.specs.Label.{_≻_}
 use Rattle.model.specs.Memory.{Network, labelAt, rowAt, stations}
-use Rattle.model.specs.Calls.{Call, Effect, accepted, opening, run, nextOf, trace}
+use Rattle.model.specs.Calls.{Call, Effect, accepted, opening, run, Traced, nextOf, trace}
 
 -- "A walk from a for t .. is a chain of stations with a first, each next one taken from the row for t of the one before. It may stop anywhere
 -- and must stop at an empty row". The list holds the stations after a.
@@ -35,8 +35,8 @@ abbrev pub TracersWalk : Network → ℕ → ℕ → List ℕ → Type 0
 TracersWalk net a t [] = (a ≡ t) ⊎ (rowAt net a t ≡ [])
 TracersWalk net a t (b ∷ w) = (a ≢ t) × (rowAt net a t ≢ []) × (b ≡ nextOf (rowAt net a t)) × TracersWalk net b t w
 
--- What demand 3 asks of the walks from a for t.
-pub record WalksEnd (net : Network) (a t : ℕ) : Type 0 where
+-- What demand 3 asks of the walks from a for t, and of what the tracer told of its own.
+pub record WalksEnd (net : Network) (a t : ℕ) (told : Traced) : Type 0 where
   -- "The rival has any walk": "each hop .. goes to a strictly lower label, no station is met twice, the walk ends within n − 1 hops".
   pub lower : (w : List ℕ) → Walk net a t w → GoesLower net a t w
   pub once : (w : List ℕ) → Walk net a t w → distinct (a ∷ w) ≡ true
@@ -47,13 +47,21 @@ pub record WalksEnd (net : Network) (a t : ℕ) : Type 0 where
   pub only-path : (w : List ℕ) → TracersWalk net a t w → w ≡ path
   pub walk : Walk net a t path
   -- "the tracer answers 131 or 132 and nothing else, exactly as its walk ends, and its hop count is true".
-  pub arrives : (trace net a t .answer ≡ 131) ↔ (endOf a path ≡ t)
-  pub stops : (trace net a t .answer ≡ 132) ↔ ((endOf a path ≢ t) × (rowAt net (endOf a path) t ≡ []))
-  pub answers : (trace net a t .answer ≡ 131) ⊎ (trace net a t .answer ≡ 132)
-  pub hops : trace net a t .hops ≡ hopsOf (a ∷ path)
+  pub arrives : (told .answer ≡ 131) ↔ (endOf a path ≡ t)
+  pub stops : (told .answer ≡ 132) ↔ ((endOf a path ≢ t) × (rowAt net (endOf a path) t ≡ []))
+  pub answers : (told .answer ≡ 131) ⊎ (told .answer ≡ 132)
+  pub hops : told .hops ≡ hopsOf (a ∷ path)
 
--- Demand 3, one claim about the whole list: from every accepted opening, after every list of calls, for every destination t and every other station a.
+-- "The list, empty or not, starts from the memory an accepted Open leaves": a network that some list of calls reaches.
+pub record Reached (net : Network) : Type 0 where
+  pub n : ℕ
+  pub start : ℕ
+  pub opened : Effect
+  pub opens : opening n start ≡ accepted opened
+  pub calls : List Call
+  pub left : net ≡ run calls (opened .net)
+
+-- Demand 3, one claim about the whole list: from every accepted opening, after every list of calls, for every destination t and every other
+-- station a.
 unfoldable pub LoopFree : Type 0
-LoopFree = (n start : ℕ) (opened : Effect) → opening n start ≡ accepted opened
-    → (calls : List Call) (net : Network) → net ≡ run calls (opened .net)
-    → (a t : ℕ) → a < net .n → t < net .n → a ≢ t → WalksEnd net a t
+LoopFree = (net : Network) → Reached net → (a t : ℕ) → a < net .n → t < net .n → a ≢ t → WalksEnd net a t (trace net a t)

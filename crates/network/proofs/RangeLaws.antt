@@ -9,7 +9,7 @@ use native.Mathlib.Omega.{arith}
 use borrow.Author.Tests.{lt-ltb, leb-true}
 use Rattle.base.specs.Lists.{allBelow, someIn, tabulate, indexOf, distinct}
 use Rattle.base.proofs.Flags.{both, Against, less, equal, more, against}
-use Rattle.base.proofs.Loops.{tabulate-length, tabulate-at, index-within, index-outside, all-pairs, all-square, distinct-tabulate}
+use Rattle.base.proofs.Loops.{tabulate-length, index-within, index-outside, all-pairs, all-square, distinct-tabulate}
 use Rattle.model.specs.Memory as model
 use Rattle.model.specs.Memory.{Successor, names, stations, headInRange, bodyInRange, sizeInRange, cellInRange, placeInRange, airInRange}
 use Rattle.model.specs.Memory.{stationInRange, memoryInRange}
@@ -17,7 +17,7 @@ use Rattle.network.specs.declared.Row.{Row}
 use Rattle.network.specs.declared.Packet.{Packet}
 use Rattle.network.specs.declared.Memory.{Memory}
 use Rattle.network.specs.View.{zeroRow, zeroRecord, entryOf, rowOf, recordOf, requestOf, replyOf, bodyOf, airOf, labelOf, view}
-use Rattle.network.proofs.ViewLaws.{row-at, record-at, body-request, body-reply, body-error, body-other}
+use Rattle.network.proofs.ViewLaws.{row-at, record-at, label-at, body-request, body-reply, body-error, body-other}
 
 -- A number other than 0 is over it.
 pub over-zero : (k : ℕ) → k ≢ 0 → ltb 0 k ≡ true
@@ -95,7 +95,7 @@ module _ (memory : Memory) where
   unfolding placed view
   placed-at at h =
       let e : 16 * (at / 16) + at % 16 ≡ at = omega arith in
-      rw (e, tabulate-at 256 (labelOf (memory .s) (memory .m) (memory .d)) at model.zeroLabel h, row-at, record-at)
+      rw (e, label-at (memory .s) (memory .m) (memory .d) at h, row-at, record-at)
 
   -- The stations are in range if the destinations last sought and the places below 16 · n are.
   stations-range : memory .n ≤ 16 → allBelow (memory .n) (stationInRange (view memory))

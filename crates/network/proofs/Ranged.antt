@@ -3,11 +3,11 @@ use Prim.Native.Nat.{ℕ, _^_, _≤_, _<_}
 use mathlib.Core.Path.{_≡_, sym, ap, subst, _∙_}
 use mathlib.Core.Logic.{_≢_}
 use mathlib.Core.Bool.{Bool, true}
-use mathlib.Core.List.{List}
+use mathlib.Core.List.{List, map, List·Memᴰ}
 use lib.ListN.{length, getD, length-map}
 use native.Mathlib.Omega.{arith}
 use Rattle.base.proofs.Flags.{Against, less, equal, more, against}
-use Rattle.base.proofs.Lists.{mem-at}
+use Rattle.base.proofs.Lists.{mem-at, unmapped}
 use Rattle.base.proofs.Loops.{tabulate-length, tabulate-at}
 use Rattle.label.specs.declared.Label.{Label}
 use Rattle.label.specs.Label.{inRange}
@@ -15,20 +15,23 @@ use Rattle.model.specs.Memory as model
 use Rattle.model.specs.Memory.{place, memoryInRange}
 use Rattle.model.proofs.Invariant.{HeadOk, BodyOk, PacketOk, RecordOk}
 use Rattle.model.proofs.Range.{Sized, Kept, in-range-kept}
+use Rattle.network.specs.declared.Row.{Row}
+use Rattle.network.specs.declared.Record.{Record}
 use Rattle.network.specs.declared.Packet.{Packet}
 use Rattle.network.specs.declared.Memory.{Memory}
-use Rattle.network.specs.View.{zeroRow, zeroRecord, zeroPacket, rowOf, recordOf, requestOf, replyOf, bodyOf, packetOf, airOf, labelOf, view}
-use Rattle.network.proofs.ViewLaws.{row-at, record-at, body-request, body-reply, body-error, body-other}
+use Rattle.network.specs.View.{zeroRow, zeroRecord, zeroPacket, entryOf, rowOf, recordOf, requestOf, replyOf, bodyOf, packetOf, airOf, labelOf, view}
+use Rattle.network.proofs.ViewLaws.{row-at, record-at, label-at, body-request, body-reply, body-error, body-other}
 use Rattle.network.proofs.RowLaws.{row-length}
 use Rattle.network.proofs.PacketLaws.{air-length, air-at}
 
--- The tables have their sizes.
-pub sized : (memory : Memory) → length (memory .rows) ≡ 256 → length (memory .records) ≡ 256 → length (memory .sought) ≡ 16 → Sized (view memory)
+-- The tables have their sizes. What is known of an array of structs is the length of its image.
+pub sized : (memory : Memory) {A B : Type 0} (f : Row → A) (g : Record → B) → length (map f (memory .rows)) ≡ 256
+    → length (map g (memory .records)) ≡ 256 → length (memory .sought) ≡ 16 → Sized (view memory)
 unfolding view
-sized memory rows records sought = record {
+sized memory f g rows records sought = record {
   labels-length = tabulate-length 256 (labelOf (memory .s) (memory .m) (memory .d));
-  rows-length = length-map (memory .rows) rowOf ∙ rows;
-  records-length = length-map (memory .records) recordOf ∙ records;
+  rows-length = length-map (memory .rows) rowOf ∙ unmapped f (memory .rows) 256 rows;
+  records-length = length-map (memory .records) recordOf ∙ unmapped g (memory .records) 256 records;
   sought-length = sought;
 }
 
@@ -84,6 +87,8 @@ pub record Ranged (memory : Memory) : Type 0 where
   pub air-count : memory .air .count ≤ 128
   pub packet : (k : ℕ) → k < memory .air .count → Carried (memory .n) (getD (memory .air .packets) k zeroPacket)
   pub row-count : (i t : ℕ) → i < memory .n → t < memory .n → getD (memory .rows) (place i t) zeroRow .count ≤ 4
+  pub successor : (i t k : ℕ) → i < memory .n → t < memory .n → k < getD (memory .rows) (place i t) zeroRow .count
+      → getD (getD (memory .rows) (place i t) zeroRow .stations) k 0 < memory .n
   pub label : (i t : ℕ) → i < memory .n → t < memory .n → inRange (labelOf (memory .s) (memory .m) (memory .d) (place i t)) ≡ true
   pub kept : (i s : ℕ) → i < memory .n → s < memory .n → i ≢ s → RecordOk (memory .n) (recordOf (getD (memory .records) (place i s) zeroRecord))
   pub sought : (i : ℕ) → i < memory .n → getD (memory .sought) i 0 < memory .n
@@ -101,11 +106,20 @@ module _ (memory : Memory) (k : Kept ⊥ (view memory)) where
       let row = getD (memory .rows) (place i t) zeroRow in
       omega (arith, ap length (row-at (memory .rows) (place i t)), row-length row, k .good .tables .cell i t hi ht .short)
 
+  successor-below : (i t x : ℕ) → i < memory .n → t < memory .n → x < getD (memory .rows) (place i t) zeroRow .count
+      → getD (getD (memory .rows) (place i t) zeroRow .stations) x 0 < memory .n
+  unfolding view rowOf entryOf
+  successor-below i t x hi ht h =
+      let row = getD (memory .rows) (place i t) zeroRow in
+      let there = mem-at (rowOf row) x (entryOf row 0) (omega (arith, row-length row)) in
+      let same = tabulate-at (row .count) (entryOf row) x (entryOf row 0) h in
+      rw (ap (λ (e : model.Successor). e .station) same) at
+      (k .good .tables .cell i t hi ht .each _ (subst (List·Memᴰ _) (sym (row-at (memory .rows) (place i t))) there) .below)
+
   label-ranged : (i t : ℕ) → i < memory .n → t < memory .n → inRange (labelOf (memory .s) (memory .m) (memory .d) (place i t)) ≡ true
   unfolding view
   label-ranged i t hi ht =
-      let f = labelOf (memory .s) (memory .m) (memory .d) in
-      let at = tabulate-at 256 f (place i t) model.zeroLabel (omega (arith, k .good .high)) in
+      let at = label-at (memory .s) (memory .m) (memory .d) (place i t) (omega (arith, k .good .high)) in
       ap inRange (sym at) ∙ k .good .tables .cell i t hi ht .ranged
 
   pub ranged : Ranged memory
@@ -116,6 +130,7 @@ module _ (memory : Memory) (k : Kept ⊥ (view memory)) where
     air-count = omega (arith, k .room, air-length (memory .air));
     packet = packet-carried;
     row-count = row-short;
+    successor = successor-below;
     label = label-ranged;
     kept = λ i s hi hs q. subst (RecordOk (memory .n)) (record-at (memory .records) (place i s)) (k .good .records .each i s hi hs q);
     sought = λ i hi. k .good .sought .each i hi;

@@ -11,7 +11,7 @@ use native.Mathlib.Numerals.{add-one}
 use borrow.Author.Tests.{ne-eqb}
 use Rattle.base.specs.Lists.{tabulate}
 use Rattle.base.proofs.Lists.{map-replicate}
-use Rattle.base.proofs.Loops.{tabulate-set, tabulate-constant}
+use Rattle.base.proofs.Loops.{tabulate-at, tabulate-set, tabulate-constant}
 use Rattle.label.specs.Label.{label, unassigned}
 use Rattle.model.specs.Memory as model
 use Rattle.model.specs.Memory.{place, freshLabels, freshRecord, fresh}
@@ -37,6 +37,10 @@ empty-record = refl
 pub record-at : (l : List Record) (at : ℕ) → getD (map recordOf l) at model.zeroRecord ≡ recordOf (getD l at zeroRecord)
 record-at l at = rw empty-record (List·getD-map recordOf l at zeroRecord)
 
+-- Request numbers of the view.
+pub number-at : (l : List RequestNumber) (i : ℕ) → getD (map (λ (k : RequestNumber). k .0) l) i 0 ≡ getD l i zeroNumber .0
+number-at l i = List·getD-map (λ (k : RequestNumber). k .0) l i zeroNumber
+
 -- A packet's body, by its kind.
 module _ (p : Packet) where
   pub body-request : p .kind ≡ 1 → bodyOf p ≡ model.request (requestOf p)
@@ -60,6 +64,10 @@ pub record Labels (s m d : List ℕ) : Type 0 where
   pub s-length : length s ≡ 256
   pub m-length : length m ≡ 256
   pub d-length : length d ≡ 256
+
+-- The label at a place.
+pub label-at : (s m d : List ℕ) (at : ℕ) → at < 256 → getD (tabulate 256 (labelOf s m d)) at model.zeroLabel ≡ labelOf s m d at
+label-at s m d at h = tabulate-at 256 (labelOf s m d) at model.zeroLabel h
 
 -- A label written at a place.
 pub labels-set : (s m d : List ℕ) → Labels s m d → (at x y z : ℕ) → at < 256

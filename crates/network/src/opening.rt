@@ -1,13 +1,8 @@
-// Open: fresh memory.
+// Fresh memory.
 ghost use mathlib.Core.Path.{_≡_};
-ghost use mathlib.Core.Logic.{_≢_};
-ghost use mathlib.Core.Bool.{not, _||_};
 ghost use Prim.Native.Nat.{_≤_};
-ghost use lib.Dec.{eqb};
-ghost use Rattle.model.specs.Memory.{sizeInRange, fresh};
-ghost use Rattle.model.specs.Calls.{opening};
+ghost use Rattle.model.specs.Memory.{fresh};
 ghost use Rattle.network.specs.View.{view};
-ghost use Rattle.network.specs.Opening.{opened};
 use crate::Air;
 use crate::Memory;
 use crate::Packet;
@@ -15,11 +10,10 @@ use crate::Record;
 use crate::RequestNumber;
 use crate::Row;
 use crate::places::place;
-use crate::range::size_in_range;
 use label::Label;
 use label::SequenceNumber;
 
-// Fresh memory.
+// Fresh memory of n stations.
 pub fn fresh(n: u8, start: u64) -> Memory
     requires { ⌜ n ≤ 16 ⌝ }
     ensures { λ r. ⌜ view r ≡ fresh n start ⌝ }
@@ -89,38 +83,5 @@ pub fn fresh(n: u8, start: u64) -> Memory
         active: active,
         links: links,
         n: n,
-    }
-}
-
-// Whether Open is turned down: n is not 2 to 16, or start is 0.
-fn refuses(n: usize, start: u64) -> bool
-    ensures { λ r. ⌜ r ≡ not (sizeInRange n) || eqb start 0 ⌝ }
-{
-    if !size_in_range(n) {
-        return true;
-    }
-    start == 0
-}
-
-// What Open gives: its answer, 0 where it is accepted, and the memory.
-pub struct Opened {
-    pub memory: Memory,
-    pub answer: u32,
-}
-
-// Open: fresh memory of n stations. Refused with 1, it gives memory of no station.
-pub fn open(n: usize, start: u64) -> Opened
-    ensures opening { λ r. ⌜ opened r ≡ opening n start ⌝ }
-    ensures refused { λ r. ⌜ (r .answer ≢ 0 → view (r .memory) ≡ fresh 0 0) ⌝ }
-{
-    if refuses(n, start) {
-        return Opened {
-            memory: fresh(0, 0),
-            answer: 1,
-        };
-    }
-    Opened {
-        memory: fresh(n as u8, start),
-        answer: 0,
     }
 }

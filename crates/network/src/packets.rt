@@ -11,8 +11,9 @@ ghost use Rattle.network.specs.View.{bodyOf, packetOf, airOf};
 use crate::Air;
 use crate::Packet;
 use crate::RequestNumber;
-use crate::links::link_up;
+use crate::links::joined;
 use crate::places::label_of;
+use crate::places::pair_place;
 use label::Label;
 
 // A request, from nobody to nobody.
@@ -83,16 +84,15 @@ pub fn addressed(p: Packet, a: u8, b: u8) -> Packet
 }
 
 // The air with p last.
-pub fn append(air: Air, p: Packet) -> Air
+pub fn append(mut air: Air, p: Packet) -> Air
     requires { ⌜ air .count < 128 ⌝ }
     ensures { λ r. ⌜ airOf r ≡ airOf air ++ (packetOf p ∷ []) ⌝ }
 {
     let count = air.count;
     let at = count as usize;
-    let mut next = air;
-    next.packets[at] = p;
-    next.count = count + 1;
-    next
+    air.packets[at] = p;
+    air.count = count + 1;
+    air
 }
 
 // The air without packet k; later ones move up.
@@ -144,22 +144,23 @@ pub fn without_between(air: Air, a: u8, b: u8) -> Air
 }
 
 // The air with one copy of p for each up neighbour of a, ascending.
-pub fn broadcast(air: Air, links: [bool; 256], n: u8, a: u8, p: Packet) -> Air
+pub fn broadcast(mut air: Air, links: [bool; 256], n: u8, a: u8, p: Packet) -> Air
     requires { ⌜ (n ≤ 16) × (a < 16) ⌝ }
     requires { ⌜ air .count + length (below n (linkIn links a)) ≤ 128 ⌝ }
     ensures { λ r. ⌜ airOf r ≡ airOf air ++ map (λ b. packet a b (bodyOf p)) (below n (linkIn links a)) ⌝ }
 {
-    let mut next = air;
     let mut count = air.count;
     let mut b = 0;
     while b < n {
-        if link_up(links, a, b) {
+        let pair = pair_place(a, b);
+        let up = links[pair];
+        if joined(a, b, up) {
             let at = count as usize;
-            next.packets[at] = addressed(p, a, b);
+            air.packets[at] = addressed(p, a, b);
             count += 1;
         }
         b += 1;
     }
-    next.count = count;
-    next
+    air.count = count;
+    air
 }

@@ -1,21 +1,21 @@
--- `links::link_up` meets its contract: no link to itself, or what the pair's place says.
-use mathlib.Core.Path.{sym}
+-- `links::link_up` meets its contract: two stations, and what their place says.
+use mathlib.Core.Path.{_∙_}
 use borrow.Author.Needs.{needs}
-use Rattle.model.proofs.Links.{link-self, link-pair}
+use Rattle.model.proofs.Links.{link-at}
 use Rattle.network.proofs.links.link_up.Statement.{statement}
 use Rattle.network.proofs.links.link_up.Tie as tie
-
-returns : tie.Need-returns
-returns c = sym (link-self _ _ _ (c .if1 .taken))
 
 pair-place-requires : tie.Need-pair-place-requires
 pair-place-requires c κs = search needs
 
-array-read-result : tie.Need-array-read-result
-array-read-result c = search needs
+array-read-up : tie.Need-array-read-up
+array-read-up c = search needs
 
-returns-2 : tie.Need-returns-2
-returns-2 c = rw (c .pair-place .ensures) (sym (link-pair _ _ _ (c .before .if1 .left)))
+joined-requires : tie.Need-joined-requires
+joined-requires c κs = search needs
+
+returns : tie.Need-returns
+returns c = c .joined .ensures ∙ link-at _ _ _ _ (c .before .pair-place .ensures)
 
 pub link-up-spec : {M : Type 1} → statement M
-link-up-spec = tie.close (tie.spec returns pair-place-requires array-read-result returns-2)
+link-up-spec = tie.close (tie.spec pair-place-requires array-read-up joined-requires returns)

@@ -9,24 +9,31 @@ use Rattle.base.specs.Lists.{below}
 use Rattle.base.proofs.Flags.{cases}
 use Rattle.base.proofs.Loops.{below-yes, below-no, below-length}
 use Rattle.model.specs.Memory.{linkIn}
+use Rattle.model.proofs.Links.{link-at}
 use Rattle.network.proofs.links.neighbour_count.Statement.{statement}
 use Rattle.network.proofs.links.neighbour_count.Tie as tie
 
 abbrev Inv-loop : tie.InvT-loop
-Inv-loop links n a count₀ b₀ count b = (b ≤ n) × (count ≡ length (below b (linkIn links a)))
+Inv-loop n a links count₀ b₀ count b = (b ≤ n) × (count ≡ length (below b (linkIn links a)))
 
 abbrev μ-loop : tie.MeasureT-loop
-μ-loop links n a count₀ b₀ count b = n - b
+μ-loop n a links count₀ b₀ count b = n - b
 
 loop-holds : tie.Need-loop-holds Inv-loop μ-loop
 unfolding below
 loop-holds c = (omega arith, refl)
 
-link-up-requires : tie.Need-link-up-requires Inv-loop μ-loop
-link-up-requires c κs = search needs
+pair-place-requires : tie.Need-pair-place-requires Inv-loop μ-loop
+pair-place-requires c κs = search needs
+
+array-read-up : tie.Need-array-read-up Inv-loop μ-loop
+array-read-up c = search needs
+
+joined-requires : tie.Need-joined-requires Inv-loop μ-loop
+joined-requires c κs = search needs
 
 add-count : tie.Need-add-count Inv-loop μ-loop
-add-count c = record { fits = omega (arith, below-length (linkIn (c .before .before .before .before .args .links) (c .before .before .before .before .args .a)) (c .before .before .before .loop .b)) }
+add-count c = record { fits = omega (arith, below-length (linkIn (c .before .before .before .before .before .args .t1) (c .before .before .before .before .before .args .a)) (c .before .before .before .before .loop .b)) }
 
 add-b : tie.Need-add-b Inv-loop μ-loop
 add-b c = search needs
@@ -36,10 +43,10 @@ loop-less c = search needs
 
 loop-again : tie.Need-loop-again Inv-loop μ-loop
 loop-again c =
-    let args = c .before .before .before .before .args in
-    let at = c .before .before .before .loop in
-    let up = sym (c .before .link-up .ensures) in
-    let grown = length-append (below (at .b) (linkIn (args .links) (args .a))) (at .b ∷ []) in
+    let args = c .before .before .before .before .before .args in
+    let at = c .before .before .before .before .loop in
+    let up = sym (c .before .joined .ensures ∙ link-at _ _ _ _ (c .before .before .pair-place .ensures)) in
+    let grown = length-append (below (at .b) (linkIn (args .t1) (args .a))) (at .b ∷ []) in
     cases
     (c .if1 .came)
     (λ w. (omega arith, w .1 ∙ ap (λ k. k + 1) (at .inv .1) ∙ sym (ap length (below-yes _ _ (up ∙ w .0 .taken)) ∙ grown)))
@@ -55,7 +62,9 @@ neighbour-count-spec =
     Inv-loop
     μ-loop
     loop-holds
-    link-up-requires
+    pair-place-requires
+    array-read-up
+    joined-requires
     add-count
     add-b
     loop-less

@@ -17,14 +17,14 @@ mul-p c = search needs
 element-set-from-p : tie.Need-element-set-from-p
 element-set-from-p c = search needs
 
-add-next : tie.Need-add-next
-add-next c = search needs
+add-air : tie.Need-add-air
+add-air c = search needs
 
 returns : tie.Need-returns
 unfolding airOf
 returns c =
-    let long = unmapped _ (c .args .air .packets) 128 (c .good .0 .1 .1 .0 .1 .0 .1) in
-    held-more _ (c .args .air .packets) (c .args .air .count) (record { room = long; list = refl }) (c .args .p) (omega arith) .list
+    let long = unmapped _ (c .args .t1 .packets) 128 (c .good .0 .1 .1 .0 .1 .0 .1) in
+    held-more _ (c .args .t1 .packets) (c .args .t1 .count) (record { room = long; list = refl }) (c .args .p) (omega arith) .list
 
 pub append-spec : {M : Type 1} → statement M
-append-spec = tie.close (tie.spec cast-at mul-p element-set-from-p add-next returns)
+append-spec = tie.close (tie.spec cast-at mul-p element-set-from-p add-air returns)

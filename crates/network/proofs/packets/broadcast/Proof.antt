@@ -12,6 +12,7 @@ use Rattle.base.proofs.Lists.{unmapped}
 use Rattle.model.specs.Memory as model
 use Rattle.model.specs.Memory.{linkIn}
 use Rattle.model.specs.Calls.{packet}
+use Rattle.model.proofs.Links.{link-at}
 use Rattle.network.specs.declared.Air.{Air}
 use Rattle.network.specs.View.{bodyOf, airOf}
 use Rattle.network.proofs.PacketLaws.{Held, held-more}
@@ -19,30 +20,40 @@ use Rattle.network.proofs.packets.broadcast.Statement.{statement}
 use Rattle.network.proofs.packets.broadcast.Tie as tie
 
 abbrev Inv-loop : tie.InvT-loop
-Inv-loop links n a p next₀ count₀ b₀ next count b =
+Inv-loop n a p air₀ links count₀ b₀ air count b =
     (b ≤ n)
-    × (count ≡ next₀ .count + length (below b (linkIn links a)))
-    × Held (airOf next₀ ++ map (λ x. packet a x (bodyOf p)) (below b (linkIn links a))) (next .packets) count
+    × (count ≡ air₀ .count + length (below b (linkIn links a)))
+    × Held (airOf air₀ ++ map (λ x. packet a x (bodyOf p)) (below b (linkIn links a))) (air .packets) count
 
 abbrev μ-loop : tie.MeasureT-loop
-μ-loop links n a p next₀ count₀ b₀ next count b = n - b
+μ-loop n a p air₀ links count₀ b₀ air count b = n - b
 
 loop-holds : tie.Need-loop-holds Inv-loop μ-loop
 unfolding airOf below
 loop-holds c =
-    let long = unmapped _ (c .args .air .packets) 128 (c .good .0 .1 .1 .0 .1 .0 .1) in
-    (omega arith, omega arith, record { room = long; list = sym (append-nil (airOf (c .args .air))) })
+    let long = unmapped _ (c .args .t1 .packets) 128 (c .good .0 .1 .1 .0 .1 .0 .1) in
+    (omega arith, omega arith, record { room = long; list = sym (append-nil (airOf (c .args .t1))) })
 
-link-up-requires : tie.Need-link-up-requires Inv-loop μ-loop
-link-up-requires c κs = search needs
+pair-place-requires : tie.Need-pair-place-requires Inv-loop μ-loop
+pair-place-requires c κs = search needs
+
+array-read-up : tie.Need-array-read-up Inv-loop μ-loop
+array-read-up c = search needs
+
+joined-requires : tie.Need-joined-requires Inv-loop μ-loop
+joined-requires c κs = search needs
+
+-- The test is the link's.
+linked : (c : tie.After-joined Inv-loop μ-loop) → linkIn (c .before .before .before .before .args .t2) (c .before .before .before .before .args .a) (c .before .before .before .loop .b) ≡ c .joined .result
+linked c = sym (c .joined .ensures ∙ link-at _ _ _ _ (c .before .pair-place .ensures))
 
 -- There is room for one more copy.
-room : (c : tie.Then1 Inv-loop μ-loop) → c .before .before .before .loop .count < 128
+room : (c : tie.Then1 Inv-loop μ-loop) → c .before .before .before .before .loop .count < 128
 room c =
-    let args = c .before .before .before .before .args in
-    let up = linkIn (args .links) (args .a) in
-    let more = below-next up (c .before .before .before .loop .b) (args .n) (omega arith) (sym (c .before .link-up .ensures) ∙ c .if1 .taken) in
-    omega (arith, more, c .before .before .before .loop .inv .1)
+    let args = c .before .before .before .before .before .args in
+    let up = linkIn (args .t2) (args .a) in
+    let more = below-next up (c .before .before .before .before .loop .b) (args .n) (omega arith) (linked (c .before) ∙ c .if1 .taken) in
+    omega (arith, more, c .before .before .before .before .loop .inv .1)
 
 cast-at : tie.Need-cast-at Inv-loop μ-loop
 cast-at c = record { fits = omega (arith, room c) }
@@ -50,11 +61,11 @@ cast-at c = record { fits = omega (arith, room c) }
 addressed-requires : tie.Need-addressed-requires Inv-loop μ-loop
 addressed-requires c κs = search needs
 
-mul-t13 : tie.Need-mul-t13 Inv-loop μ-loop
-mul-t13 c = record { fits = omega (arith, room (c .before)) }
+mul-t18 : tie.Need-mul-t18 Inv-loop μ-loop
+mul-t18 c = record { fits = omega (arith, room (c .before)) }
 
-element-set-from-next : tie.Need-element-set-from-next Inv-loop μ-loop
-element-set-from-next c = room (c .before)
+element-set-from-air : tie.Need-element-set-from-air Inv-loop μ-loop
+element-set-from-air c = room (c .before)
 
 add-count : tie.Need-add-count Inv-loop μ-loop
 add-count c = record { fits = omega (arith, room (c .before)) }
@@ -67,26 +78,25 @@ loop-less c = search needs
 
 loop-again : tie.Need-loop-again Inv-loop μ-loop
 loop-again c =
-    let args = c .before .before .before .before .args in
-    let at = c .before .before .before .loop in
-    let up = linkIn (args .links) (args .a) in
+    let args = c .before .before .before .before .before .args in
+    let at = c .before .before .before .before .loop in
+    let up = linkIn (args .t2) (args .a) in
     let copy : ℕ → model.Packet = λ x. packet (args .a) x (bodyOf (args .p)) in
-    let linked = sym (c .before .link-up .ensures) in
     cases
     (c .if1 .came)
     (λ w.
-    let yes = linked ∙ w .0 .taken in
+    let yes = linked (c .before) ∙ w .0 .taken in
     let more = ap length (below-yes up (at .b) yes) ∙ length-append (below (at .b) up) (at .b ∷ []) in (
       omega arith,
       omega (arith, w .3, more, at .inv .1),
-      rw (ap (λ (r : Air). r .packets) (w .2), w .3, map-below-yes up copy (airOf (args .air)) (at .b) yes, ← w .1 .ensures)
+      rw (ap (λ (r : Air). r .packets) (w .2), w .3, map-below-yes up copy (airOf (args .t1)) (at .b) yes, ← w .1 .ensures)
           (held-more _ _ _ (at .inv .2) _ (room (record { before = c .before; if1 = w .0 }))),
     ))
     (λ w.
-    let no = linked ∙ w .0 .left in (
+    let no = linked (c .before) ∙ w .0 .left in (
       omega arith,
       omega (arith, w .2, ap length (below-no up (at .b) no), at .inv .1),
-      rw (ap (λ (r : Air). r .packets) (w .1), w .2, map-below-no up copy (airOf (args .air)) (at .b) no) (at .inv .2),
+      rw (ap (λ (r : Air). r .packets) (w .1), w .2, map-below-no up copy (airOf (args .t1)) (at .b) no) (at .inv .2),
     ))
 
 returns : tie.Need-returns Inv-loop μ-loop
@@ -102,11 +112,13 @@ broadcast-spec =
     Inv-loop
     μ-loop
     loop-holds
-    link-up-requires
+    pair-place-requires
+    array-read-up
+    joined-requires
     cast-at
     addressed-requires
-    mul-t13
-    element-set-from-next
+    mul-t18
+    element-set-from-air
     add-count
     add-b
     loop-less

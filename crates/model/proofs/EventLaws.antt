@@ -1,0 +1,140 @@
+-- Laws of events, one after the other.
+use Prim.Native.Nat.{ℕ, _+_, _*_, _≤_, _<_}
+use mathlib.Core.Path.{_≡_, refl, ap, _∙_}
+use mathlib.Core.Logic.{_≢_}
+use mathlib.Core.Bool.{true, false, not, _&&_, _||_}
+use mathlib.Core.List.{List, [], _∷_, _++_}
+use native.Mathlib.Omega.{arith}
+use lib.ListN.{length}
+use lib.Dec.{ltb, eqb}
+use borrow.Author.Tests.{eq-eqb, ne-eqb, eqb-true, eqb-false, ltb-false, not-false}
+use Rattle.base.proofs.Flags.{neither, choose}
+use Rattle.base.specs.Lists.{tabulate}
+use Rattle.base.proofs.Loops.{tabulate-more}
+use Rattle.model.specs.Memory.{Network, sizeInRange, fresh}
+use Rattle.model.specs.Calls.{Call, effect, refused, accepted, after, refuse_when_otherwise_, step, run}
+use Rattle.model.specs.Calls.{Up, Down, Solicit, GiveUp, Expire, Deliver, Lose, Duplicate}
+use Rattle.model.specs.Events.{usesOne, notEvent, callOf, Event, calls, traces, noEvent, eventOf, eventAt, eventsOf, callsIn, notEvents, running}
+use Rattle.model.proofs.Refusals.{OnMemory}
+
+-- A list of calls and then another.
+run-append : (xs ys : List Call) (net : Network) → run (xs ++ ys) net ≡ run ys (run xs net)
+unfolding run
+run-append [] ys net = refl
+run-append (c ∷ xs) ys net = run-append xs ys (after net (step c net))
+
+calls-append : (xs ys : List Event) → callsIn (xs ++ ys) ≡ callsIn xs ++ callsIn ys
+unfolding callsIn
+calls-append [] ys = refl
+calls-append (calls c ∷ xs) ys = ap (λ (l : List Call). c ∷ l) (calls-append xs ys)
+calls-append (traces a t ∷ xs) ys = calls-append xs ys
+calls-append (noEvent ∷ xs) ys = calls-append xs ys
+
+-- One event more.
+pub run-more : (kinds operands : List ℕ) (i : ℕ) (net : Network)
+    → run (callsIn (tabulate (i + 1) (eventAt kinds operands))) net
+    ≡ run (callsIn (eventAt kinds operands i ∷ [])) (run (callsIn (tabulate i (eventAt kinds operands))) net)
+run-more kinds operands i net =
+    let events = tabulate i (eventAt kinds operands) in
+    let one = eventAt kinds operands i ∷ [] in
+    ap (λ (l : List Event). run (callsIn l) net) (tabulate-more i (eventAt kinds operands))
+    ∙ ap (λ (l : List Call). run l net) (calls-append events one)
+    ∙ run-append (callsIn events) (callsIn one) net
+
+-- What each event leaves.
+module _ (net : Network) where
+  pub run-call : (c : Call) → run (callsIn (calls c ∷ [])) net ≡ after net (step c net)
+  unfolding run callsIn
+  run-call c = refl
+
+  pub run-trace : (a t : ℕ) → run (callsIn (traces a t ∷ [])) net ≡ net
+  unfolding run callsIn
+  run-trace a t = refl
+
+  pub run-no-event : run (callsIn (noEvent ∷ [])) net ≡ net
+  unfolding run callsIn
+  run-no-event = refl
+
+-- An event and a call by their kind.
+module _ (kind a b : ℕ) where
+  -- Where 11 does not turn it down, the kind is 1 to 9.
+  pub event-kinds : notEvent kind b ≡ false → (0 < kind) × (kind < 10)
+  unfolding notEvent
+  event-kinds h =
+      let w = neither (eqb kind 0) (ltb 9 kind) (neither (eqb kind 0 || ltb 9 kind) (usesOne kind && not (eqb b 0)) h .0) in
+      let z = eqb-false kind 0 (w .0) in
+      (omega (arith, z), omega (arith, ltb-false 9 kind (w .1)))
+
+  pub call-1 : kind ≡ 1 → callOf kind a b ≡ Up a b
+  unfolding callOf
+  call-1 e = rw e
+
+  pub call-2 : kind ≡ 2 → callOf kind a b ≡ Down a b
+  unfolding callOf
+  call-2 e = rw e
+
+  pub call-3 : kind ≡ 3 → callOf kind a b ≡ Solicit a b
+  unfolding callOf
+  call-3 e = rw e
+
+  pub call-4 : kind ≡ 4 → callOf kind a b ≡ GiveUp a
+  unfolding callOf
+  call-4 e = rw e
+
+  pub call-5 : kind ≡ 5 → callOf kind a b ≡ Expire a b
+  unfolding callOf
+  call-5 e = rw e
+
+  pub call-6 : kind ≡ 6 → callOf kind a b ≡ Deliver a
+  unfolding callOf
+  call-6 e = rw e
+
+  pub call-7 : kind ≡ 7 → callOf kind a b ≡ Lose a
+  unfolding callOf
+  call-7 e = rw e
+
+  pub call-8 : kind ≡ 8 → callOf kind a b ≡ Duplicate a
+  unfolding callOf
+  call-8 e = rw e
+
+  pub event-none : notEvent kind b ≡ true → eventOf kind a b ≡ noEvent
+  unfolding eventOf
+  event-none h = rw h
+
+  pub event-trace : notEvent kind b ≡ false → kind ≡ 9 → eventOf kind a b ≡ traces a b
+  unfolding eventOf
+  event-trace h e = rw (h, eq-eqb kind 9 e)
+
+  pub event-call : notEvent kind b ≡ false → kind ≢ 9 → eventOf kind a b ≡ calls (callOf kind a b)
+  unfolding eventOf
+  event-call h e = rw (h, ne-eqb kind 9 e)
+
+  -- The call of a kind is one on memory.
+  pub call-on-memory : OnMemory (callOf kind a b)
+  unfolding callOf
+  call-on-memory =
+      choose OnMemory (eqb kind 1) (λ e. tt) (λ e. choose OnMemory (eqb kind 2) (λ e. tt) (λ e. choose OnMemory (eqb kind 3) (λ e. tt) (λ e.
+      choose OnMemory (eqb kind 4) (λ e. tt) (λ e. choose OnMemory (eqb kind 5) (λ e. tt) (λ e. choose OnMemory (eqb kind 6) (λ e. tt) (λ e.
+      choose OnMemory (eqb kind 7) (λ e. tt) (λ e. tt)))))))
+
+-- A run of events, by its tests.
+module _ (n start : ℕ) (kinds operands : List ℕ) where
+  pub running-10 : notEvents (length kinds) (length operands) ≡ true → running n start kinds operands ≡ refused 10
+  unfolding running refuse_when_otherwise_
+  running-10 h = rw h
+
+  pub running-1 : notEvents (length kinds) (length operands) ≡ false → not (sizeInRange n) || eqb start 0 ≡ true → running n start kinds operands ≡ refused 1
+  unfolding running refuse_when_otherwise_
+  running-1 h k = rw (h, k)
+
+  pub running-accepted : notEvents (length kinds) (length operands) ≡ false → not (sizeInRange n) || eqb start 0 ≡ false
+      → running n start kinds operands ≡ accepted (effect 0 0 (run (callsIn (eventsOf kinds operands)) (fresh n start)))
+  unfolding running refuse_when_otherwise_
+  running-accepted h k = rw (h, k)
+
+-- What the test for 10 tells.
+pub events-tell : (kinds operands : ℕ) → notEvents kinds operands ≡ false → (kinds ≤ 4_096) × (operands ≡ 2 * kinds)
+unfolding notEvents
+events-tell kinds operands h =
+    let w = neither (ltb 4_096 kinds) (not (eqb operands (2 * kinds))) h in
+    (omega (arith, ltb-false 4_096 kinds (w .0)), eqb-true operands (2 * kinds) (not-false (eqb operands (2 * kinds)) (w .1)))

@@ -1,0 +1,67 @@
+-- Events of a script (01, "Scripts and the printout").
+use Prim.Native.Nat.{ℕ, _+_, _*_}
+use mathlib.Core.Bool.{Bool, not, _&&_, _||_}
+use mathlib.Core.List.{List, [], _∷_}
+use lib.ListN.{length, getD}
+use lib.Dec.{ltb, eqb}
+use Rattle.base.specs.Choice.{if_then_else_}
+use Rattle.base.specs.Lists.{tabulate}
+use Rattle.model.specs.Memory.{sizeInRange, fresh}
+use Rattle.model.specs.Calls.{Call, Up, Down, Solicit, GiveUp, Expire, Deliver, Lose, Duplicate}
+use Rattle.model.specs.Calls.{effect, Result, accepted, refuse_when_otherwise_, run}
+
+-- 11: "kind not 1..9, or an unused operand not 0". "In 4, 6, 7, 8 b is unused".
+unfoldable pub usesOne : ℕ → Bool
+usesOne kind = eqb kind 4 || ltb 5 kind && ltb kind 9
+
+unfoldable pub notEvent : (kind b : ℕ) → Bool
+notEvent kind b = eqb kind 0 || ltb 9 kind || usesOne kind && not (eqb b 0)
+
+-- "Kinds: 1 Up, 2 Down, 3 Solicit, 4 Give up, 5 Expire, 6 Deliver, 7 Lose, 8 Duplicate, .. a is k in 6 to 8."
+unfoldable pub callOf : (kind a b : ℕ) → Call
+callOf kind a b =
+    if eqb kind 1 then Up a b
+    else if eqb kind 2 then Down a b
+    else if eqb kind 3 then Solicit a b
+    else if eqb kind 4 then GiveUp a
+    else if eqb kind 5 then Expire a b
+    else if eqb kind 6 then Deliver a
+    else if eqb kind 7 then Lose a
+    else Duplicate a
+
+-- A call, a Trace ("9 Trace"), or what 11 turns down.
+pub data Event : Type 0 where
+  calls : Call → Event
+  traces : (a t : ℕ) → Event
+  noEvent : Event
+
+unfoldable pub eventOf : (kind a b : ℕ) → Event
+eventOf kind a b =
+    if notEvent kind b then noEvent
+    else if eqb kind 9 then traces a b
+    else calls (callOf kind a b)
+
+-- "E kinds; then E operand pairs a, b".
+unfoldable pub eventAt : (kinds operands : List ℕ) → ℕ → Event
+eventAt kinds operands i = eventOf (getD kinds i 0) (getD operands (2 * i) 0) (getD operands (2 * i + 1) 0)
+
+unfoldable pub eventsOf : (kinds operands : List ℕ) → List Event
+eventsOf kinds operands = tabulate (length kinds) (eventAt kinds operands)
+
+-- The calls among them.
+unfoldable pub callsIn : List Event → List Call
+callsIn [] = []
+callsIn (calls c ∷ events) = c ∷ callsIn events
+callsIn (traces a t ∷ events) = callsIn events
+callsIn (noEvent ∷ events) = callsIn events
+
+-- 10: "events over 4,096, .. operands not 2E".
+unfoldable pub notEvents : (kinds operands : ℕ) → Bool
+notEvents kinds operands = ltb 4_096 kinds || not (eqb operands (2 * kinds))
+
+-- Events from fresh memory, one after the other.
+unfoldable pub running : (n start : ℕ) (kinds operands : List ℕ) → Result
+running n start kinds operands =
+    refuse 10 when notEvents (length kinds) (length operands) otherwise
+    refuse 1 when not (sizeInRange n) || eqb start 0 otherwise
+    accepted (effect 0 0 (run (callsIn (eventsOf kinds operands)) (fresh n start)))

@@ -1,0 +1,2 @@
+pub mod HistoryLaws
+pub mod RunLaws

@@ -1,0 +1,47 @@
+-- `calls::open` meets its contract: refused with 1, or fresh memory.
+use Prim.Native.Nat.{_≤_}
+use mathlib.Core.Path.{_≡_, sym, ap, _∙_}
+use mathlib.Core.Bool.{false, not, _||_}
+use lib.Dec.{eqb}
+use native.Mathlib.Omega.{arith}
+use borrow.Author.Needs.{needs}
+use Rattle.model.specs.Memory as model
+use Rattle.model.specs.Memory.{sizeInRange}
+use Rattle.model.specs.Calls.{effect}
+use Rattle.model.proofs.Range.{Sized}
+use Rattle.model.proofs.Refusals.{open-1, open-accepted, opening-tells}
+use Rattle.network.specs.View.{view}
+use Rattle.network.proofs.Ranged.{sized}
+use Rattle.steps.proofs.CallLaws.{called-refused, called-accepted}
+use Rattle.sandbox.proofs.calls.open.Statement.{statement}
+use Rattle.sandbox.proofs.calls.open.Tie as tie
+
+sizes : (c : tie.Start) → Sized (view (c .args .memory))
+sizes c = sized (c .args .memory) _ _ (c .good .0 .1 .1 .1 .1 .1 .0 .1 .0 .1) (c .good .0 .1 .1 .1 .1 .1 .1 .0 .1 .0 .1) (search needs)
+
+-- Past the test n and start are in range.
+passed : (c : tie.Else1) → not (sizeInRange (c .before .before .args .n)) || eqb (c .before .before .args .start) 0 ≡ false
+passed c = sym (c .before .open-refused .ensures) ∙ c .if1 .left
+
+small : (c : tie.Else1) → c .before .before .args .n ≤ 16
+small c = opening-tells (c .before .before .args .n) (c .before .before .args .start) (passed c) .1
+
+open-refused-requires : tie.Need-open-refused-requires
+open-refused-requires c κs = search needs
+
+returns : tie.Need-returns
+returns c = called-refused _ _ 1 (open-1 _ _ _ (sym (c .before .open-refused .ensures) ∙ c .if1 .taken))
+
+cast-fresh : tie.Need-cast-fresh
+cast-fresh c = record { fits = omega (arith, small c) }
+
+fresh-requires : tie.Need-fresh-requires
+fresh-requires c κs = small c
+
+returns-2 : tie.Need-returns-2
+returns-2 c =
+    called-accepted _ _ _ _ (sizes (c .before .before .before)) (open-accepted _ _ _ (passed (c .before)))
+    (ap (λ (net : model.Network). effect 0 0 net) (c .fresh .ensures))
+
+pub open-spec : {M : Type 1} → statement M
+open-spec = tie.close (tie.spec open-refused-requires returns cast-fresh fresh-requires returns-2)

@@ -1,0 +1,22 @@
+-- `calls::solicit` meets its contract: refused with 1, or the call on memory in range.
+use borrow.Author.Needs.{needs}
+use Rattle.base.proofs.Flags.{not-was-true, not-was-false}
+use Rattle.model.specs.Calls.{Solicit}
+use Rattle.steps.proofs.CallLaws.{called-out-of-range}
+use Rattle.sandbox.proofs.calls.solicit.Statement.{statement}
+use Rattle.sandbox.proofs.calls.solicit.Tie as tie
+
+in-range-requires : tie.Need-in-range-requires
+in-range-requires c κs = search needs
+
+returns : tie.Need-returns
+returns c = called-out-of-range _ (Solicit _ _) tt (not-was-false _ _ (c .before .in-range .ensures) (c .if1 .taken))
+
+solicit-requires : tie.Need-solicit-requires
+solicit-requires c κs = not-was-true _ _ (c .before .in-range .ensures) (c .if1 .left)
+
+returns-2 : tie.Need-returns-2
+returns-2 c = c .solicit .ensures
+
+pub solicit-spec : {M : Type 1} → statement M
+solicit-spec = tie.close (tie.spec in-range-requires returns solicit-requires returns-2)

@@ -1,0 +1,130 @@
+-- `events::run` meets its contract: refused with 10 or 1, or the events one after the other; and the claim of demand 3.
+use Prim.Native.Nat.{_-_, _*_, _≤_}
+use mathlib.Core.Path.{_≡_, refl, sym, subst, _∙_}
+use mathlib.Core.Bool.{false, not, _||_}
+use lib.ListN.{length}
+use lib.Dec.{eqb}
+use native.Mathlib.Omega.{arith}
+use borrow.Author.Needs.{needs}
+use Rattle.model.specs.Memory.{sizeInRange}
+use Rattle.model.specs.Events.{eventAt, notEvents}
+use Rattle.model.proofs.Refusals.{opening-tells}
+use Rattle.model.proofs.EventLaws.{events-tell}
+use Rattle.steps.proofs.TraceLaws.{walks}
+use Rattle.sandbox.proofs.RunLaws.{Ran, ran-none, ran-more, run-10, run-1, run-accepted, run-reached}
+use Rattle.sandbox.proofs.events.run.Statement.{statement}
+use Rattle.sandbox.proofs.events.run.Tie as tie
+
+abbrev Inv-loop : tie.InvT-loop
+Inv-loop n start kinds operands next₀ i₀ next i = (i ≤ length kinds) × Ran n start kinds operands i next
+
+abbrev μ-loop : tie.MeasureT-loop
+μ-loop n start kinds operands next₀ i₀ next i = length kinds - i
+
+-- Past the tests there are two operands for each kind, and n and start are in range.
+abbrev first : tie.Else1 Inv-loop μ-loop → tie.Start Inv-loop μ-loop
+first c = c .before .before .before .before
+
+listed : (c : tie.Else1 Inv-loop μ-loop) → notEvents (length (first c .args .kinds .now)) (length (first c .args .operands .now)) ≡ false
+listed c = sym (c .before .not-events .ensures) ∙ c .if1 .left
+
+passed : (c : tie.Else2 Inv-loop μ-loop) → not (sizeInRange (first (c .before .before) .args .n)) || eqb (first (c .before .before) .args .start) 0 ≡ false
+passed c = sym (c .before .open-refused .ensures) ∙ c .if2 .left
+
+small : (c : tie.Else2 Inv-loop μ-loop) → first (c .before .before) .args .n ≤ 16
+small c = let args = first (c .before .before) .args in opening-tells (args .n) (args .start) (passed c) .1
+
+-- A turn's place in the list.
+abbrev tested : tie.At-loop Inv-loop μ-loop → tie.Else2 Inv-loop μ-loop
+tested c = c .before .before
+
+counted : (c : tie.At-loop Inv-loop μ-loop) → let args = first (tested c .before .before) .args in
+    (length (args .kinds .now) ≤ 4_096) × (length (args .operands .now) ≡ 2 * length (args .kinds .now))
+counted c = events-tell _ _ (listed (tested c .before .before))
+
+not-events-requires : tie.Need-not-events-requires Inv-loop μ-loop
+not-events-requires c κs = search needs
+
+returns : tie.Need-returns Inv-loop μ-loop
+returns c = (run-10 _ _ _ _ _ (sym (c .before .not-events .ensures) ∙ c .if1 .taken), λ e. absurd (omega arith))
+
+open-refused-requires : tie.Need-open-refused-requires Inv-loop μ-loop
+open-refused-requires c κs = search needs
+
+returns-2 : tie.Need-returns-2 Inv-loop μ-loop
+returns-2 c = (run-1 _ _ _ _ _ (listed (c .before .before)) (sym (c .before .open-refused .ensures) ∙ c .if2 .taken), λ e. absurd (omega arith))
+
+cast-fresh : tie.Need-cast-fresh Inv-loop μ-loop
+cast-fresh c = record { fits = omega (arith, small c) }
+
+fresh-requires : tie.Need-fresh-requires Inv-loop μ-loop
+fresh-requires c κs = small c
+
+loop-holds : tie.Need-loop-holds Inv-loop μ-loop
+loop-holds c = (omega arith, ran-none _ _ _ _ _ (passed (c .before)) (c .fresh .ensures))
+
+shared-slice-read-kind : tie.Need-shared-slice-read-kind Inv-loop μ-loop
+shared-slice-read-kind c = search needs
+
+mul-a : tie.Need-mul-a Inv-loop μ-loop
+mul-a c = record { fits = omega (arith, counted (c .before .before)) }
+
+shared-slice-read-a : tie.Need-shared-slice-read-a Inv-loop μ-loop
+shared-slice-read-a c = omega (arith, counted (c .before .before .before))
+
+mul-b : tie.Need-mul-b Inv-loop μ-loop
+mul-b c = record { fits = omega (arith, counted (c .before .before .before)) }
+
+add-b : tie.Need-add-b Inv-loop μ-loop
+add-b c = record { fits = omega (arith, counted (c .before .before .before)) }
+
+shared-slice-read-b : tie.Need-shared-slice-read-b Inv-loop μ-loop
+shared-slice-read-b c = omega (arith, counted (c .before .before .before .before))
+
+event-in-range-requires : tie.Need-event-in-range-requires Inv-loop μ-loop
+event-in-range-requires c κs = c .before .before .before .before .loop .inv .1 .ranged
+
+add-i : tie.Need-add-i Inv-loop μ-loop
+add-i c = record { fits = omega (arith, counted (c .before .before .before .before .before .before)) }
+
+loop-less : tie.Need-loop-less Inv-loop μ-loop
+loop-less c = omega arith
+
+loop-again : tie.Need-loop-again Inv-loop μ-loop
+unfolding eventAt
+loop-again c = (omega arith, ran-more _ _ _ _ _ _ _ (c .before .before .before .before .before .before .loop .inv .1) (c .before .event-in-range .ensures))
+
+returns-3 : tie.Need-returns-3 Inv-loop μ-loop
+returns-3 c =
+    let at = tested (c .before) in
+    let args = first (at .before .before) .args in
+    let e : c .before .loop .i ≡ length (args .kinds .now) = omega arith in
+    let ran = subst (λ i. Ran (args .n) (args .start) (args .kinds .now) (args .operands .now) i (c .before .loop .next)) e (c .before .loop .inv .1) in (
+      run-accepted _ _ _ _ _ _ (listed (at .before .before)) (passed at) ran,
+      λ zero a t. walks (c .before .loop .next) a t _ refl (run-reached _ _ _ _ _ (passed at) ran),
+    )
+
+pub run-spec : {M : Type 1} → statement M
+run-spec =
+    tie.close
+    (tie.spec
+    Inv-loop
+    μ-loop
+    not-events-requires
+    returns
+    open-refused-requires
+    returns-2
+    cast-fresh
+    fresh-requires
+    loop-holds
+    shared-slice-read-kind
+    mul-a
+    shared-slice-read-a
+    mul-b
+    add-b
+    shared-slice-read-b
+    event-in-range-requires
+    add-i
+    loop-less
+    loop-again
+    returns-3)

@@ -1,0 +1,80 @@
+// Events (01, "Scripts and the printout") on any memory, and runs of events.
+ghost use mathlib.Core.Path.{_≡_};
+ghost use mathlib.Core.Logic.{_≢_};
+ghost use Prim.Native.Nat.{ℕ, _<_};
+ghost use Rattle.model.specs.Calls.{trace};
+ghost use Rattle.model.specs.Walks.{WalksEnd};
+ghost use Rattle.model.specs.Events.{eventOf, notEvents, running};
+ghost use Rattle.network.specs.View.{view};
+ghost use Rattle.steps.specs.Called.{Called};
+ghost use Rattle.steps.specs.Happens.{Happens};
+use crate::calls::open_refused;
+use network::Memory;
+use network::opening::fresh;
+use network::range::in_range;
+use steps::Done;
+use steps::events::Happened;
+use steps::events::event_in_range;
+
+// An event: the call of its kind on its operands, or a Trace.
+pub fn event(memory: Memory, kind: u8, a: u8, b: u8) -> Happened
+    ensures { λ r. ⌜ Happens memory (eventOf kind a b) r ⌝ }
+{
+    if !in_range(memory) {
+        return Happened {
+            memory: memory,
+            answer: 1,
+            sent: 0,
+            hops: 0,
+        };
+    }
+    event_in_range(memory, kind, a, b)
+}
+
+// 10: whether there are too many kinds, or the operands are not two for each.
+pub fn not_events(kinds: usize, operands: usize) -> bool
+    ensures { λ r. ⌜ r ≡ notEvents kinds operands ⌝ }
+{
+    if 4096 < kinds {
+        return true;
+    }
+    operands != 2 * kinds
+}
+
+// Events one after the other, from fresh memory of n stations. The memory handed in is not read; it is given back where the run is
+// turned down. The range is tested for no event: every event keeps it.
+pub fn run(memory: Memory, n: usize, start: u64, kinds: &[u8], operands: &[u8]) -> Done
+    ensures run { λ r. ⌜ Called memory (running n start (now (kinds .entry)) (now (operands .entry))) r ⌝ }
+    ensures loop_free { λ r. ⌜ (r .answer ≡ 0 → (a t : ℕ) → a < r .memory .n → t < r .memory .n → a ≢ t
+        → WalksEnd (view (r .memory)) a t (trace (view (r .memory)) a t)) ⌝ }
+{
+    if not_events(kinds.len(), operands.len()) {
+        return Done {
+            memory: memory,
+            answer: 10,
+            sent: 0,
+        };
+    }
+    if open_refused(n, start) {
+        return Done {
+            memory: memory,
+            answer: 1,
+            sent: 0,
+        };
+    }
+    let mut next = fresh(n as u8, start);
+    let mut i = 0;
+    while i < kinds.len() {
+        let kind = kinds[i];
+        let a = operands[2 * i];
+        let b = operands[2 * i + 1];
+        let happened = event_in_range(next, kind, a, b);
+        next = happened.memory;
+        i += 1;
+    }
+    Done {
+        memory: next,
+        answer: 0,
+        sent: 0,
+    }
+}

@@ -1,0 +1,3 @@
+// The sandbox's public functions: the calls on any memory, events, and runs of events.
+pub mod calls;
+pub mod events;

@@ -1,0 +1,3 @@
+pub mod Laws
+pub mod ReplyLaws
+pub mod RequestLaws

@@ -1,0 +1,84 @@
+-- Laws of a call's contract.
+use Prim.Native.Nat.{ℕ, _<_}
+use mathlib.Core.Path.{_≡_, refl, sym, ap, subst, _∙_}
+use mathlib.Core.Logic.{_≢_}
+use mathlib.Core.Bool.{Bool, true, false}
+use mathlib.Core.List.{List}
+use native.Mathlib.Omega.{arith}
+use Rattle.model.specs.Memory.{Network, memoryInRange}
+use Rattle.model.specs.Calls.{Call, Effect, effect, Result, refused, accepted, after, notPair, step}
+use Rattle.model.proofs.Range.{Sized}
+use Rattle.model.proofs.Refusals.{pair-tells, OnMemory, out-of-range}
+use Rattle.model.proofs.Steps.{accepted-in-range}
+use Rattle.network.specs.declared.Row.{Row}
+use Rattle.network.specs.declared.Air.{Air}
+use Rattle.network.specs.declared.Memory.{Memory}
+use Rattle.network.specs.View.{view}
+use Rattle.network.proofs.Ranged.{Ranged}
+use Rattle.steps.specs.declared.Done.{Done}
+use Rattle.steps.specs.Called.{done, effectOf, Called}
+
+-- The memory with other rows, another air and other links.
+abbrev pub changed : Memory → List Row → Air → List Bool → Memory
+changed memory rows air links = record {
+  s = memory .s;
+  m = memory .m;
+  d = memory .d;
+  rows = rows;
+  records = memory .records;
+  air = air;
+  numbers = memory .numbers;
+  sought = memory .sought;
+  active = memory .active;
+  links = links;
+  n = memory .n;
+}
+
+module _ (memory : Memory) (c : Call) where
+  -- A call turned down gives the same memory.
+  pub called-refused : (number : ℕ) → step c (view memory) ≡ refused number → Called memory (step c (view memory)) (done memory number 0)
+  unfolding Called
+  called-refused number e = subst (λ z. Called memory z (done memory number 0)) (sym e) refl
+
+  -- An accepted call leaves memory in range.
+  pub called-accepted : (r : Done) (e : Effect) → Sized (view memory) → step c (view memory) ≡ accepted e → effectOf r ≡ e
+      → Called memory (step c (view memory)) r
+  unfolding Called
+  called-accepted r e sized h same =
+      subst (λ z. Called memory z r) (sym h)
+      (same, ap (λ (x : Effect). memoryInRange (x .net)) same ∙ accepted-in-range (view memory) sized c e h)
+
+-- Two stations of memory in range.
+pub pair-below : (memory : Memory) → Ranged memory → (a b : ℕ) → notPair (view memory) a b ≡ false → (a < 16) × (b < 16) × (a ≢ b)
+unfolding view
+pair-below memory r a b e = let w = pair-tells (view memory) a b e in (omega (arith, w .0, r .high), omega (arith, w .1, r .high), w .2)
+
+-- Memory out of range.
+pub called-out-of-range : (memory : Memory) (c : Call) → OnMemory c → memoryInRange (view memory) ≡ false → Called memory (step c (view memory)) (done memory 1 0)
+called-out-of-range memory c k h = called-refused memory c 1 (out-of-range c (view memory) k h)
+
+-- The same call by another name.
+pub called-as : (memory : Memory) (c d : Call) (r : Done) → d ≡ c → Called memory (step c (view memory)) r → Called memory (step d (view memory)) r
+called-as memory c d r e h = subst (λ z. Called memory (step z (view memory)) r) (sym e) h
+
+-- A call leaves the model's network, and memory in range.
+module _ (memory : Memory) where
+  pub called-after : (z : Result) (r : Done) → Called memory z r → view (r .memory) ≡ after (view memory) z
+  unfolding Called after
+  called-after (refused k) r h = ap (λ (d : Done). view (d .memory)) h
+  called-after (accepted e) r h = ap (λ (x : Effect). x .net) (h .0)
+
+  pub called-in-range : (z : Result) (r : Done) → Called memory z r → memoryInRange (view memory) ≡ true → memoryInRange (view (r .memory)) ≡ true
+  unfolding Called
+  called-in-range (refused k) r h m = ap (λ (d : Done). memoryInRange (view (d .memory))) h ∙ m
+  called-in-range (accepted e) r h m = h .1
+
+-- Free places decide nothing: calls on two memories with one reading end alike.
+pub called-alike : (x y : Memory) (c : Call) (p q : Done) → view x ≡ view y → Called x (step c (view x)) p → Called y (step c (view y)) q → effectOf p ≡ effectOf q
+unfolding Called
+called-alike x y c p q e h k = go (step c (view y)) (subst (λ z. Called x (step c z) p) e h) k
+  where
+    go : (z : Result) → Called x z p → Called y z q → effectOf p ≡ effectOf q
+    go (refused number) a b =
+        ap effectOf a ∙ ap (λ (net : Network). effect number 0 net) e ∙ sym (ap effectOf b)
+    go (accepted w) a b = a .0 ∙ sym (b .0)
