@@ -1,19 +1,19 @@
 -- Laws of events, one after the other.
 use Prim.Native.Nat.{ℕ, _+_, _*_, _≤_, _<_}
-use mathlib.Core.Path.{_≡_, refl, ap, _∙_}
+use mathlib.Core.Path.{_≡_, refl, sym, ap, _∙_}
 use mathlib.Core.Logic.{_≢_}
 use mathlib.Core.Bool.{true, false, not, _&&_, _||_}
 use mathlib.Core.List.{List, [], _∷_, _++_}
 use native.Mathlib.Omega.{arith}
-use lib.ListN.{length}
+use lib.ListN.{length, getD}
 use lib.Dec.{ltb, eqb}
 use borrow.Author.Tests.{eq-eqb, ne-eqb, eqb-true, eqb-false, ltb-false, not-false}
-use Rattle.base.proofs.Flags.{neither, choose}
+use Rattle.base.proofs.Flags.{neither, choose, clash}
 use Rattle.base.specs.Lists.{tabulate}
 use Rattle.base.proofs.Loops.{tabulate-more}
 use Rattle.model.specs.Memory.{Network, sizeInRange, fresh}
 use Rattle.model.specs.Calls.{Call, effect, refused, accepted, after, refuse_when_otherwise_, step, run}
-use Rattle.model.specs.Calls.{Up, Down, Solicit, GiveUp, Expire, Deliver, Lose, Duplicate}
+use Rattle.model.specs.Calls.{Open, Up, Down, Solicit, GiveUp, Expire, Deliver, Lose, Duplicate}
 use Rattle.model.specs.Events.{usesOne, notEvent, callOf, Event, calls, traces, noEvent, eventOf, eventAt, eventsOf, callsIn, notEvents, running}
 use Rattle.model.proofs.Refusals.{OnMemory}
 
@@ -116,6 +116,70 @@ module _ (kind a b : ℕ) where
       choose OnMemory (eqb kind 1) (λ e. tt) (λ e. choose OnMemory (eqb kind 2) (λ e. tt) (λ e. choose OnMemory (eqb kind 3) (λ e. tt) (λ e.
       choose OnMemory (eqb kind 4) (λ e. tt) (λ e. choose OnMemory (eqb kind 5) (λ e. tt) (λ e. choose OnMemory (eqb kind 6) (λ e. tt) (λ e.
       choose OnMemory (eqb kind 7) (λ e. tt) (λ e. tt)))))))
+
+-- The kind and the operands of a call and of an event.
+abbrev callParts : Call → List ℕ
+callParts (Open n start) = []
+callParts (Up a b) = 1 ∷ a ∷ b ∷ []
+callParts (Down a b) = 2 ∷ a ∷ b ∷ []
+callParts (Solicit a t) = 3 ∷ a ∷ t ∷ []
+callParts (GiveUp a) = 4 ∷ a ∷ 0 ∷ []
+callParts (Expire a t) = 5 ∷ a ∷ t ∷ []
+callParts (Deliver k) = 6 ∷ k ∷ 0 ∷ []
+callParts (Lose k) = 7 ∷ k ∷ 0 ∷ []
+callParts (Duplicate k) = 8 ∷ k ∷ 0 ∷ []
+
+abbrev eventParts : Event → List ℕ
+eventParts (calls c) = callParts c
+eventParts (traces a t) = 9 ∷ a ∷ t ∷ []
+eventParts noEvent = []
+
+module _ (kind a b : ℕ) (h : notEvent kind b ≡ false) where
+  unused : (k : ℕ) → kind ≡ k → usesOne k ≡ true → b ≡ 0
+  unfolding notEvent
+  unused k e u =
+      let w = neither (eqb kind 0 || ltb 9 kind) (usesOne kind && not (eqb b 0)) h .1 in
+      eqb-true b 0 (not-false (eqb b 0) (sym (ap (λ t. t && not (eqb b 0)) (ap usesOne e ∙ u)) ∙ w))
+
+  -- A kind that uses both operands, and one that uses one.
+  of-two : (k : ℕ) → eqb kind k ≡ true → k ∷ a ∷ b ∷ [] ≡ kind ∷ a ∷ b ∷ []
+  of-two k e = ap (λ (x : ℕ). x ∷ a ∷ b ∷ []) (sym (eqb-true kind k e))
+
+  of-one : (k : ℕ) → kind ≡ k → usesOne k ≡ true → k ∷ a ∷ 0 ∷ [] ≡ kind ∷ a ∷ b ∷ []
+  of-one k e u = λ i. sym e i ∷ a ∷ sym (unused k e u) i ∷ []
+
+  abbrev Of : Call → Type 0
+  Of c = callParts c ≡ kind ∷ a ∷ b ∷ []
+
+  abbrev OfEvent : Event → Type 0
+  OfEvent e = eventParts e ≡ kind ∷ a ∷ b ∷ []
+
+  call-parts : kind ≢ 9 → Of (callOf kind a b)
+  unfolding callOf usesOne
+  call-parts h9 =
+      choose Of (eqb kind 1) (of-two 1) (λ e1. choose Of (eqb kind 2) (of-two 2) (λ e2. choose Of (eqb kind 3) (of-two 3) (λ e3.
+      choose Of (eqb kind 4) (λ e. of-one 4 (eqb-true kind 4 e) refl) (λ e4. choose Of (eqb kind 5) (of-two 5) (λ e5.
+      choose Of (eqb kind 6) (λ e. of-one 6 (eqb-true kind 6 e) refl) (λ e6. choose Of (eqb kind 7) (λ e. of-one 7 (eqb-true kind 7 e) refl) (λ e7.
+      of-one 8 (eighth e1 e2 e3 e4 e5 e6 e7) refl)))))))
+    where
+      eighth : eqb kind 1 ≡ false → eqb kind 2 ≡ false → eqb kind 3 ≡ false → eqb kind 4 ≡ false → eqb kind 5 ≡ false → eqb kind 6 ≡ false → eqb kind 7 ≡ false → kind ≡ 8
+      eighth e1 e2 e3 e4 e5 e6 e7 =
+          let w = event-kinds kind a b h in
+          let four : 3 < kind = omega (arith, w .0, eqb-false kind 1 e1, eqb-false kind 2 e2, eqb-false kind 3 e3) in
+          let seven : 6 < kind = omega (arith, four, eqb-false kind 4 e4, eqb-false kind 5 e5, eqb-false kind 6 e6) in
+          omega (arith, seven, w .1, h9, eqb-false kind 7 e7)
+
+  event-parts : eventParts (eventOf kind a b) ≡ kind ∷ a ∷ b ∷ []
+  unfolding eventOf
+  event-parts =
+      choose OfEvent (notEvent kind b) (λ t. clash t h) (λ f. choose OfEvent (eqb kind 9) (of-two 9) (λ e. call-parts (eqb-false kind 9 e)))
+
+-- An event's kind and operands are determined.
+pub event-determines : (kind a b kind′ a′ b′ : ℕ) → notEvent kind b ≡ false → notEvent kind′ b′ ≡ false → eventOf kind a b ≡ eventOf kind′ a′ b′
+    → (kind ≡ kind′) × (a ≡ a′) × (b ≡ b′)
+event-determines kind a b kind′ a′ b′ h h′ e =
+    let same : kind ∷ a ∷ b ∷ [] ≡ kind′ ∷ a′ ∷ b′ ∷ [] = sym (event-parts kind a b h) ∙ ap eventParts e ∙ event-parts kind′ a′ b′ h′ in
+    (ap (λ l. getD l 0 0) same, ap (λ l. getD l 1 0) same, ap (λ l. getD l 2 0) same)
 
 -- A run of events, by its tests.
 module _ (n start : ℕ) (kinds operands : List ℕ) where

@@ -2,4 +2,5 @@ pub mod Memory
 pub mod Calls
 pub mod Walks
 pub mod Events
+pub mod Printout
 pub mod Sample

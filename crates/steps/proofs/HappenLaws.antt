@@ -1,17 +1,21 @@
 -- Laws of events, as the code makes them.
 use Prim.Native.Nat.{ℕ}
 use mathlib.Core.Path.{_≡_, refl, sym, ap, subst, _∙_}
-use mathlib.Core.Bool.{true, false}
+use mathlib.Core.Bool.{Bool, true, false}
 use mathlib.Core.List.{[], _∷_}
+use lib.ListN.{length}
 use lib.Dec.{eqb}
+use Rattle.base.specs.Choice.{if_then_else_}
 use Rattle.base.proofs.Flags.{choose}
 use Rattle.model.specs.Memory.{memoryInRange}
-use Rattle.model.specs.Calls.{Call, step, run, Traced, traced, trace}
+use Rattle.model.specs.Calls.{Call, Effect, Result, refused, accepted, step, run, Traced, traced, trace}
 use Rattle.model.specs.Events.{notEvent, callOf, Event, calls, traces, noEvent, eventOf, callsIn}
+use Rattle.model.specs.Printout.{Line, line, resultLine, lineOf}
 use Rattle.model.proofs.Tracing.{trace-out-of-range}
 use Rattle.model.proofs.EventLaws.{call-on-memory, run-call, run-trace, run-no-event}
 use Rattle.network.specs.declared.Memory.{Memory}
 use Rattle.network.specs.View.{view}
+use Rattle.network.proofs.PacketLaws.{air-length}
 use Rattle.steps.specs.declared.Done.{Done}
 use Rattle.steps.specs.declared.events.Happened.{Happened}
 use Rattle.steps.specs.Called.{done, Called}
@@ -55,3 +59,33 @@ module _ (memory : Memory) where
   happens-in-range (calls c) r h m = called-in-range memory (step c (view memory)) (done (r .memory) (r .answer) (r .sent)) (h .0) m
   happens-in-range (traces a t) r h m = ap (λ (x : Happened). memoryInRange (view (x .memory))) h ∙ m
   happens-in-range noEvent r h m = ap (λ (x : Happened). memoryInRange (view (x .memory))) h ∙ m
+
+-- The line of an event has the numbers that the code gave, and its packets in the air are counted after it.
+module _ (memory : Memory) (index kind a b : ℕ) where
+  air-count : (m : Memory) → length (view m .air) ≡ m .air .count
+  unfolding view
+  air-count m = air-length (m .air)
+
+  called-line : (z : Result) (d : Done) → Called memory z d
+      → resultLine index kind a b (view memory) z ≡ line index kind a b (d .answer) (d .sent) (d .memory .air .count) 0
+  unfolding Called resultLine
+  called-line (refused number) d h =
+      ap (λ (c : ℕ). line index kind a b number 0 c 0) (air-count memory) ∙ ap (λ (x : Done). line index kind a b (x .answer) (x .sent) (x .memory .air .count) 0) (sym h)
+  called-line (accepted e) d h =
+      ap (λ (x : Effect). line index kind a b (x .answer) (x .sent) (length (x .net .air)) 0) (sym (h .0))
+      ∙ ap (λ (c : ℕ). line index kind a b (d .answer) (d .sent) c 0) (air-count (d .memory))
+
+  abbrev numbers : Happened → Line
+  numbers r = line index kind a b (r .answer) (r .sent) (r .memory .air .count) (r .hops)
+
+  pub happens-line : (e : Event) (r : Happened) → Happens memory e r → memoryInRange (view memory) ≡ true
+      → lineOf index kind a b (view memory) e ≡ line index kind a b (r .answer) (r .sent) (r .memory .air .count) (r .hops)
+  unfolding Happens lineOf
+  happens-line (calls c) r h m =
+      called-line (step c (view memory)) (done (r .memory) (r .answer) (r .sent)) (h .0)
+      ∙ ap (line index kind a b (r .answer) (r .sent) (r .memory .air .count)) (sym (h .1))
+  happens-line (traces x t) r h m =
+      ap (λ (c : ℕ). line index kind a b (trace (view memory) x t .answer) 0 c (trace (view memory) x t .hops)) (air-count memory) ∙ ap numbers (sym h)
+  happens-line noEvent r h m =
+      ap (λ (c : ℕ). line index kind a b 11 0 c 0) (air-count memory) ∙ ap (λ (z : Bool). line index kind a b (if z then 11 else 1) 0 (memory .air .count) 0) (sym m)
+      ∙ ap numbers (sym h)

@@ -1,0 +1,87 @@
+-- Laws of numbers in bytes, and of bytes put into an array.
+use Prim.Native.Nat.{ℕ, zero, suc, _+_, _*_, _/_, _%_, _^_, _≤_, _<_}
+use mathlib.Core.Path.{_≡_, refl, sym, ap, _∙_}
+use mathlib.Core.List.{List, [], _∷_, _++_}
+use lib.ListN.{length, getD, take, drop, set, length-append}
+use lib.Seq.{sets, sets-eq, take-append-seam, take-at}
+use native.Mathlib.Nat.{pow-suc, add-zero, zero-add}
+use native.Mathlib.Omega.{arith}
+use mir.Syntax.{w8}
+use mir.Val.{Fits}
+use Rattle.codec.specs.Bytes.{littleEndian, number, over, AllBytes}
+
+-- Elements put one list after the other are put as one list.
+pub sets-append : {A : Type 0} (l : List A) (at : ℕ) (xs ys : List A) → sets (sets l at xs) (at + length xs) ys ≡ sets l at (xs ++ ys)
+sets-append l at [] ys = rw add-zero
+sets-append l at (x ∷ xs) ys =
+    let next : at + suc (length xs) ≡ suc at + length xs = omega arith in
+    rw next (sets-append (set l at x) (suc at) xs ys)
+
+-- What is put at the start stands before what is kept, and is read back.
+pub sets-over : (l written : List ℕ) → length written ≤ length l → sets l 0 written ≡ over written l
+unfolding over
+sets-over l written h = sets-eq written l 0 (omega arith) ∙ rw zero-add
+
+pub take-sets : {A : Type 0} (l xs : List A) → length xs ≤ length l → take (length xs) (sets l 0 xs) ≡ xs
+take-sets l xs h = ap (take (length xs)) (sets-eq xs l 0 (omega arith)) ∙ take-append-seam xs _
+
+pub over-first : (written before after : List ℕ) (k : ℕ) → after ≡ over written before → k ≡ length written → (k ≤ length after) × (take k after ≡ written)
+unfolding over
+over-first written before after k e h = (
+  omega (arith, h, ap length e, length-append written (drop (length written) before)),
+  ap (take k) e ∙ take-at written (drop (length written) before) k (sym h),
+)
+
+-- A number of a width has that many bytes, and they make it again; bytes are those of the number that they make.
+pub little-length : (width v : ℕ) → length (littleEndian width v) ≡ width
+unfolding littleEndian
+little-length zero v = refl
+little-length (suc width) v = ap suc (little-length width (v / 256))
+
+pub number-little : (width v : ℕ) → v < 256 ^ width → number (littleEndian width v) ≡ v
+unfolding littleEndian number
+number-little zero v h = omega arith
+number-little (suc width) v h =
+    let rest : number (littleEndian width (v / 256)) ≡ v / 256 = number-little width (v / 256) (omega (arith, pow-suc 256 width)) in
+    omega arith
+
+pub little-number : (bytes : List ℕ) → AllBytes bytes → littleEndian (length bytes) (number bytes) ≡ bytes
+unfolding littleEndian number AllBytes
+little-number [] h = refl
+little-number (x ∷ bytes) h =
+    let low : (x + 256 * number bytes) % 256 ≡ x = omega arith in
+    let rest : (x + 256 * number bytes) / 256 ≡ number bytes = omega arith in
+    rw (low, rest, little-number bytes (h .1))
+
+pub number-below : (bytes : List ℕ) → AllBytes bytes → number bytes < 256 ^ length bytes
+unfolding number AllBytes
+number-below [] h = omega arith
+number-below (x ∷ bytes) h = omega (arith, pow-suc 256 (length bytes), number-below bytes (h .1))
+
+-- Numbers of 8 bits are bytes, and what is made of bytes is bytes.
+pub all-bytes : (l : List ℕ) → ((i : ℕ) → Fits w8 (getD l i 0)) → AllBytes l
+unfolding AllBytes
+all-bytes [] h = tt
+all-bytes (x ∷ l) h = (h 0 .fits, all-bytes l (λ i. h (suc i)))
+
+pub bytes-append : (xs ys : List ℕ) → AllBytes xs → AllBytes ys → AllBytes (xs ++ ys)
+unfolding AllBytes
+bytes-append [] ys h k = k
+bytes-append (x ∷ xs) ys h k = (h .0, bytes-append xs ys (h .1) k)
+
+pub bytes-take : (k : ℕ) (l : List ℕ) → AllBytes l → AllBytes (take k l)
+unfolding AllBytes
+bytes-take zero l h = tt
+bytes-take (suc k) [] h = tt
+bytes-take (suc k) (x ∷ l) h = (h .0, bytes-take k l (h .1))
+
+pub bytes-drop : (k : ℕ) (l : List ℕ) → AllBytes l → AllBytes (drop k l)
+unfolding AllBytes
+bytes-drop zero l h = h
+bytes-drop (suc k) [] h = tt
+bytes-drop (suc k) (x ∷ l) h = bytes-drop k l (h .1)
+
+pub bytes-little : (width v : ℕ) → AllBytes (littleEndian width v)
+unfolding littleEndian AllBytes
+bytes-little zero v = tt
+bytes-little (suc width) v = (omega arith, bytes-little width (v / 256))

@@ -1,0 +1,23 @@
+-- Numbers in bytes, "little-endian" (01, "Scripts and the printout").
+use Prim.Native.Nat.{ℕ, zero, suc, _+_, _*_, _/_, _%_, _<_}
+use mathlib.Core.List.{List, [], _∷_, _++_}
+use lib.ListN.{length, drop}
+
+-- The bytes of v, the lowest first.
+unfoldable pub littleEndian : (width v : ℕ) → List ℕ
+littleEndian zero v = []
+littleEndian (suc width) v = v % 256 ∷ littleEndian width (v / 256)
+
+-- The number that bytes make, the lowest first.
+unfoldable pub number : List ℕ → ℕ
+number [] = 0
+number (x ∷ bytes) = x + 256 * number bytes
+
+-- An array after these bytes were written at its start: "Places past what is written .. are kept."
+unfoldable pub over : (written before : List ℕ) → List ℕ
+over written before = written ++ drop (length written) before
+
+-- Every one of them is a byte.
+unfoldable pub AllBytes : List ℕ → Type 0
+AllBytes [] = Unit {0}
+AllBytes (x ∷ bytes) = (x < 256) × AllBytes bytes

@@ -1,0 +1,3 @@
+pub mod TextLaws
+pub mod LineLaws
+pub mod RehearsalLaws

@@ -1,0 +1,126 @@
+-- Laws of decimal fields, and of text put into an array.
+use Prim.Native.Nat.{ℕ, zero, suc, _+_, _-_, _/_, _%_, _^_, _≤_, _<_}
+use mathlib.Core.Path.{_≡_, refl, sym, ap, _∙_}
+use mathlib.Core.List.{List, [], _∷_, _++_, append-assoc, append-nil}
+use lib.ListN.{length, getD, set, take, length-append}
+use lib.Seq.{take-suc, length-sets}
+use lib.Dec.{ltb}
+use native.Mathlib.Nat.{pow-suc, one-le-pow, pow-le-pow-right}
+use native.Mathlib.Numerals.{add-one, sub-one}
+use native.Mathlib.Omega.{arith}
+use borrow.Author.Tests.{lt-ltb, le-ltb}
+use Rattle.base.proofs.Flags.{choose, Against, less, equal, more, against}
+use Rattle.codec.proofs.ByteLaws.{sets-append, take-sets}
+use Rattle.io.specs.Digits.{digits, Fewest}
+use Rattle.printout.specs.Text.{concatMap, digitsOf, decimal, field}
+use Rattle.printout.specs.Contracts.{Puts}
+
+-- The fewest digits that hold a number below 10 ^ k are at most k, and they are its decimal text.
+pub fewest-within : (n r k : ℕ) → Fewest 10 1 n r → 0 < k → n < 10 ^ k → r ≤ k
+fewest-within n r k f h l = go (against r k)
+  where
+    go : Against r k → r ≤ k
+    go (less m) = omega arith
+    go (equal e) = omega arith
+    go (more m) = absurd (omega (arith, f .2 (omega arith), pow-le-pow-right {n = 10} (omega arith) {i = k} {j = r - 1} (omega arith)))
+
+digits-of : (r most n : ℕ) → Fewest 10 1 n r → r ≤ most → digits 10 r n ≡ digitsOf most n
+unfolding digitsOf
+digits-of zero most n f h = absurd (omega arith)
+digits-of (suc r) zero n f h = absurd (omega arith)
+digits-of (suc zero) (suc most) n f h =
+    let small : n < 10 = omega arith in
+    let last : n % 10 ≡ n = omega arith in
+    rw (last, lt-ltb n 10 small)
+digits-of (suc (suc r)) (suc most) n f h =
+    let least : 10 ^ suc r ≤ n = rw sub-one at (f .2 (omega arith)) in
+    let large : 10 ≤ n = omega (arith, pow-suc 10 r, one-le-pow r 10 (omega arith)) in
+    let rest : Fewest 10 1 (n / 10) (suc r) = (omega arith, omega (arith, pow-suc 10 (suc r)), λ l. rw sub-one (omega (arith, pow-suc 10 r))) in
+    rw (le-ltb n 10 large, digits-of (suc r) most (n / 10) rest (omega arith), lt-ltb (n % 10) 10 (omega arith))
+
+pub digits-decimal : (n r : ℕ) → Fewest 10 1 n r → r ≤ 20 → digits 10 r n ≡ decimal n
+unfolding decimal
+digits-decimal n r f h = digits-of r 20 n f h
+
+-- A number below 10 ^ k has at most k digits.
+digits-within : (most n k : ℕ) → 0 < k → n < 10 ^ k → length (digitsOf most n) ≤ k
+unfolding digitsOf
+digits-within zero n k h l = omega arith
+digits-within (suc most) n zero h l = absurd (omega arith)
+digits-within (suc most) n (suc zero) h l = rw (lt-ltb n 10 (omega arith)) (omega arith)
+digits-within (suc most) n (suc (suc k)) h l =
+    let rest = digits-within most (n / 10) (suc k) (omega arith) (omega (arith, pow-suc 10 (suc k))) in
+    choose (λ (z : List ℕ). length z ≤ suc (suc k)) (ltb n 10) (λ e. omega arith)
+    (λ e. rw (length-append (digitsOf most (n / 10))) (omega arith))
+
+pub decimal-within : (n k : ℕ) → 0 < k → n < 10 ^ k → length (decimal n) ≤ k
+unfolding decimal
+decimal-within n k h l = digits-within 20 n k h l
+
+-- So a field takes one byte more, and fields of at most so many digits take at most `room` bytes.
+pub field-within : (n k : ℕ) → 0 < k → n < 10 ^ k → length (field n) ≤ k + 1
+unfolding field
+field-within n k h l = omega (arith, decimal-within n k h l)
+
+abbrev pub Digits : (most l : List ℕ) → Type 0
+Digits [] [] = Unit {0}
+Digits [] (x ∷ l) = ⊥
+Digits (k ∷ most) [] = ⊥
+Digits (k ∷ most) (x ∷ l) = (0 < k) × (x < 10 ^ k) × Digits most l
+
+abbrev pub room : (most : List ℕ) → ℕ
+room [] = 0
+room (k ∷ most) = k + 1 + room most
+
+pub fields-within : (most l : List ℕ) → Digits most l → length (concatMap field l) ≤ room most
+unfolding concatMap
+fields-within [] [] h = omega arith
+fields-within (k ∷ most) (x ∷ l) h =
+    omega (arith, length-append (field x) (concatMap field l), field-within x k (h .0) (h .1), fields-within most l (h .2))
+
+-- Texts one after the other.
+module _ {A : Type 0} (f : A → List ℕ) where
+  pub concat-append : (xs ys : List A) → concatMap f (xs ++ ys) ≡ concatMap f xs ++ concatMap f ys
+  unfolding concatMap
+  concat-append [] ys = refl
+  concat-append (x ∷ xs) ys = rw (concat-append xs ys) (sym (append-assoc (f x) (concatMap f xs) (concatMap f ys)))
+
+  pub concat-one : (xs : List A) (x : A) → concatMap f (xs ++ (x ∷ [])) ≡ concatMap f xs ++ f x
+  unfolding concatMap
+  concat-one xs x = concat-append xs (x ∷ []) ∙ rw (append-nil (f x))
+
+  pub concat-prefix : (l : List A) (k : ℕ) → length (concatMap f (take k l)) ≤ length (concatMap f l)
+  unfolding concatMap
+  concat-prefix l zero = omega arith
+  concat-prefix [] (suc k) = omega arith
+  concat-prefix (x ∷ l) (suc k) =
+      omega (arith, length-append (f x) (concatMap f (take k l)), length-append (f x) (concatMap f l), concat-prefix l k)
+
+  pub concat-take : (l : List A) (i : ℕ) (d : A) → i < length l → concatMap f (take (i + 1) l) ≡ concatMap f (take i l) ++ f (getD l i d)
+  concat-take l i d h = rw (add-one, take-suc l i d h) (concat-one (take i l) (getD l i d))
+
+-- Nothing put, one byte put, and a text put after another.
+pub puts-none : (before : List ℕ) (at : ℕ) → Puts before at [] at before
+puts-none before at = record { stands = refl; ends = omega arith }
+
+pub puts-one : (before : List ℕ) (at x : ℕ) → Puts before at (x ∷ []) (at + 1) (set before at x)
+puts-one before at x = record { stands = refl; ends = refl }
+
+pub puts-append : {before middle after xs ys : List ℕ} {at end last : ℕ}
+    → Puts before at xs end middle → Puts middle end ys last after → Puts before at (xs ++ ys) last after
+puts-append {before} {middle} {after} {xs} {ys} {at} p q = record {
+  stands = q .stands ∙ rw (p .stands, p .ends) (sets-append before at xs ys);
+  ends = omega (arith, length-append xs ys);
+}
+
+-- The array keeps its length.
+pub puts-length : {before text after : List ℕ} {at end : ℕ} → Puts before at text end after → length after ≡ length before
+puts-length {before} {text} {after} {at} p = ap length (p .stands) ∙ length-sets before at text
+
+-- What is put at the start of an array that has room for it is the array's first part.
+pub puts-first : {before text after : List ℕ} {end : ℕ} → Puts before 0 text end after → end ≤ length before
+    → (take end after ≡ text) × (end ≤ length after) × (end ≡ length (take end after))
+puts-first {before} {text} {after} {end} p h =
+    let e : end ≡ length text = p .ends ∙ omega arith in
+    let first : take end after ≡ text = rw (e, p .stands) (take-sets before text (omega (arith, e, h))) in
+    (first, omega (arith, h, puts-length p), e ∙ sym (ap length first))

@@ -1,0 +1,4 @@
+pub mod Text
+pub mod Printed
+pub mod Contracts
+pub mod Sample

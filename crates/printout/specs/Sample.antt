@@ -1,0 +1,52 @@
+-- The example of 01, "Scripts and the printout", byte for byte.
+use Prim.Native.Nat.{ℕ}
+use Prim.Native.Char.{code}
+use Prim.Native.String.{String, [] as none, _∷_ as _before_}
+use mathlib.Core.Path.{_≡_, refl, ap, _∙_}
+use mathlib.Core.List.{List, [], _∷_, _++_}
+use Rattle.base.specs.Lists.{allBelow}
+use Rattle.codec.specs.Bytes.{number}
+use Rattle.model.specs.Memory.{sizeInRange}
+use Rattle.model.specs.Events.{usesOne, notEvent}
+use Rattle.model.specs.Printout.{Line, LabelLine, routeLines}
+use Rattle.model.specs.Sample.{kinds, operands, lines, routes, prints}
+use Rattle.script.specs.Script.{script, eventCount, decoded, done, notSized, notOpening, allEvents, noRoom, reading}
+use Rattle.printout.specs.Text.{concatMap, digitsOf, decimal, field, ended, eventText, labelText, rehearsalText}
+use Rattle.printout.specs.Printed.{textOf, printed}
+
+-- The ASCII codes of a text.
+unfoldable pub codes : String → List ℕ
+codes none = []
+codes (c before text) = code c ∷ codes text
+
+-- "In hexadecimal `03 0900 0100000000000000 010103060607060609 0001 0102 0200 0000 0000 0000 0000 0000 0200`".
+unfoldable pub example : List ℕ
+example =
+    3 ∷ 9 ∷ 0 ∷ 1 ∷ 0 ∷ 0 ∷ 0 ∷ 0 ∷ 0 ∷ 0 ∷ 0 ∷ 1 ∷ 1 ∷ 3 ∷ 6 ∷ 6 ∷ 7 ∷ 6 ∷ 6 ∷ 9 ∷ 0 ∷ 1 ∷ 1 ∷ 2 ∷ 2 ∷ 0 ∷ 0 ∷ 0 ∷ 0 ∷ 0 ∷ 0 ∷ 0 ∷ 0 ∷ 0 ∷ 0 ∷ 0 ∷ 2 ∷ 0 ∷ []
+
+-- "prints:"
+unfoldable pub text : List String
+text =
+    "0 1 0 1 0 0 0 0"
+    ∷ "1 1 1 2 0 0 0 0"
+    ∷ "2 3 2 0 0 1 1 0"
+    ∷ "3 6 0 0 103 2 2 0"
+    ∷ "4 6 0 0 102 1 2 0"
+    ∷ "5 7 0 0 0 0 1 0"
+    ∷ "6 6 0 0 115 1 1 0"
+    ∷ "7 6 0 0 115 0 0 0"
+    ∷ "8 9 2 0 131 0 0 2"
+    ∷ "L 1 0 1 1 2 0"
+    ∷ "L 2 0 1 2 3 1"
+    ∷ []
+
+reads : reading example 4_096 8_192 ≡ done (script 3 1 kinds operands)
+unfolding reading eventCount decoded notSized notOpening allEvents noRoom number example kinds operands sizeInRange notEvent usesOne allBelow
+reads = refl
+
+pub prints-text : printed example ≡ concatMap (λ line. ended (codes line)) text
+unfolding printed textOf rehearsalText concatMap digitsOf decimal field eventText labelText lines routes codes text
+prints-text =
+    ap textOf reads
+    ∙ ap (λ (l : List Line). concatMap eventText l ++ concatMap labelText (routeLines 3 1 kinds operands)) (prints .0)
+    ∙ ap (λ (l : List LabelLine). concatMap eventText lines ++ concatMap labelText l) (prints .1)

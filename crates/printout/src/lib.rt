@@ -1,0 +1,4 @@
+// The rehearsal of a script, from its bytes to the printout's bytes (01, "Scripts and the printout").
+mod lines;
+pub mod rehearsal;
+mod text;

@@ -1,0 +1,78 @@
+// A rehearsal: the events of a script from fresh memory, and what each did.
+ghost use mathlib.Core.Path.{_≡_};
+ghost use mathlib.Core.Bool.{false, not, _||_};
+ghost use Prim.Native.Nat.{_*_, _≤_};
+ghost use lib.ListN.{length, take};
+ghost use lib.Dec.{eqb};
+ghost use Rattle.io.specs.Counts.{Counts};
+ghost use Rattle.model.specs.Memory.{sizeInRange};
+ghost use Rattle.printout.specs.Text.{rehearsalText};
+ghost use Rattle.printout.specs.Printed.{printed, RoutesLoopFree};
+ghost use Rattle.printout.specs.Contracts.{Puts};
+use crate::lines::put_event_line;
+use crate::lines::put_label_lines;
+use crate::lines::put_refusal;
+use network::opening::fresh;
+use sandbox::events::event;
+use script::read;
+
+// Room for every printout: lines of 40 bytes for 4,096 events and of 69 for 256 labels, and 200 bytes more for the line that is put.
+pub const ROOM: usize = 184320;
+
+// The lines of these events and of the labels after them.
+fn put_rehearsal(out: &mut [u8], n: u8, start: u64, kinds: &[u8], operands: &[u8]) -> usize
+    requires { ⌜ (not (sizeInRange n) || eqb start 0 ≡ false) × (length (now kinds) ≤ 4_096) × (length (now operands) ≡ 2 * length (now kinds)) ⌝ }
+    requires { ⌜ 184_320 ≤ length (now out) ⌝ }
+    ensures { λ r. ⌜ Puts (now (out .entry)) 0 (rehearsalText n start (now (kinds .entry)) (now (operands .entry))) r (now (out .exit)) ⌝ }
+    ensures { λ r. ⌜ r ≤ 184_320 ⌝ }
+{
+    let mut memory = fresh(n, start);
+    let mut end = 0;
+    let mut i = 0;
+    while i < kinds.len() {
+        let kind = kinds[i];
+        let a = operands[2 * i];
+        let b = operands[2 * i + 1];
+        let happened = event(memory, kind, a, b);
+        memory = happened.memory;
+        let air = memory.air;
+        end = put_event_line(
+            out,
+            end,
+            i,
+            kind,
+            a,
+            b,
+            happened.answer,
+            happened.sent,
+            air.count,
+            happened.hops,
+        );
+        i += 1;
+    }
+    put_label_lines(out, end, memory)
+}
+
+// What a script prints, at the start of the lent array; the result is its length. No walk along the routes printed goes in a circle.
+pub fn rehearse(script: &[u8], out: &mut [u8; ROOM]) -> usize
+    ensures text { λ r. ⌜ take r (now (out .exit)) ≡ printed (now (script .entry)) ⌝ }
+    ensures length { λ r. ⌜ Counts r (now (out .exit)) ⌝ }
+    ensures loop_free { λ _. ⌜ RoutesLoopFree (now (script .entry)) ⌝ }
+{
+    let mut kinds = [0u8; 4096];
+    let mut operands = [0u8; 8192];
+    let found = read(script, &mut kinds, &mut operands);
+    let answer = found.answer;
+    if answer != 0 {
+        return put_refusal(out, answer);
+    }
+    let events = found.events;
+    let pairs = 2 * events;
+    put_rehearsal(
+        out,
+        found.n,
+        found.start,
+        &kinds[..events],
+        &operands[..pairs],
+    )
+}

@@ -1,0 +1,2 @@
+pub mod ScriptLaws
+pub mod RoundTrip

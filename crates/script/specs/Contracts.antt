@@ -1,0 +1,43 @@
+-- What the contracts of reading and writing say.
+use Prim.Native.Nat.{ℕ, _*_}
+use mathlib.Core.Path.{_≡_}
+use mathlib.Core.List.{List}
+use lib.ListN.{length, take}
+use lib.Dec.{ltb}
+use Rattle.base.specs.Choice.{if_then_else_}
+use Rattle.codec.specs.Bytes.{over}
+use Rattle.script.specs.declared.Found.{Found}
+use Rattle.script.specs.declared.Written.{Written}
+use Rattle.script.specs.Script.{Script, script, eventCount, decoded, Ended, refused, done, notSized, notOpening}
+
+abbrev pub found : (start events answer n : ℕ) → Found
+found start events answer n = record { start = start; events = events; answer = answer; n = n }
+
+-- What the tests 9, 10 and 1 find.
+unfoldable pub sizesIn : List ℕ → Found
+sizesIn bytes =
+    let events = eventCount bytes in
+    let s = decoded bytes in
+    if ltb (length bytes) 11 then found 0 0 9 0
+    else if notSized events (length bytes) then found 0 0 10 0
+    else if notOpening s then found 0 0 1 0
+    else found (s .start) events 0 (s .n)
+
+-- Reading gave r and left the two lent arrays so. Turned down, the arrays are as they were. Read, exactly E kinds and 2E operands are
+-- written, and the places past them kept.
+unfoldable pub Reads : Ended Script → (kinds operands : List ℕ) → Found → (kinds′ operands′ : List ℕ) → Type 0
+Reads (refused number) kinds operands r kinds′ operands′ = (r ≡ found 0 0 number 0) × (kinds′ ≡ kinds) × (operands′ ≡ operands)
+Reads (done s) kinds operands r kinds′ operands′ =
+    (r ≡ found (s .start) (length (s .kinds)) 0 (s .n)) × (kinds′ ≡ over (s .kinds) kinds) × (operands′ ≡ over (s .operands) operands)
+
+-- The script that reading left at the start of the two arrays.
+abbrev pub inArrays : Found → (kinds operands : List ℕ) → Script
+inArrays r kinds operands = script (r .n) (r .start) (take (r .events) kinds) (take (2 * r .events) operands)
+
+abbrev pub written : (length answer : ℕ) → Written
+written length answer = record { length = length; answer = answer }
+
+-- Writing gave r and left the lent array so.
+unfoldable pub Writes : Ended (List ℕ) → (out : List ℕ) → Written → (out′ : List ℕ) → Type 0
+Writes (refused number) out r out′ = (r ≡ written 0 number) × (out′ ≡ out)
+Writes (done bytes) out r out′ = (r ≡ written (length bytes) 0) × (out′ ≡ over bytes out)

@@ -1,0 +1,3 @@
+pub mod Script
+pub mod Contracts
+pub mod Determined

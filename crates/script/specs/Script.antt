@@ -1,0 +1,78 @@
+-- Scripts in bytes (01, "Scripts and the printout"; refusals 9 to 12).
+use Prim.Native.Nat.{ℕ, _+_, _*_}
+use mathlib.Core.Bool.{Bool, not, _||_}
+use mathlib.Core.List.{List, _++_}
+use lib.ListN.{length, getD, take, drop}
+use lib.Dec.{ltb, eqb}
+use Rattle.base.specs.Choice.{if_then_else_}
+use Rattle.base.specs.Lists.{allBelow}
+use Rattle.codec.specs.Bytes.{littleEndian, number}
+use Rattle.model.specs.Memory.{sizeInRange}
+use Rattle.model.specs.Events.{notEvent, notEvents}
+
+-- The number of stations, the start and the events of a rehearsal: a kind for each event, and two operands.
+pub record Script : Type 0 where
+  pub n : ℕ
+  pub start : ℕ
+  pub kinds : List ℕ
+  pub operands : List ℕ
+
+abbrev pub script : (n start : ℕ) (kinds operands : List ℕ) → Script
+script n start kinds operands = record { n = n; start = start; kinds = kinds; operands = operands }
+
+-- "Sizes first: n (1 byte), E (2), start (8), little-endian; then E kinds; then E operand pairs a, b." "Writing takes E from the number of
+-- kinds."
+unfoldable pub encoded : Script → List ℕ
+encoded s =
+    littleEndian 1 (s .n) ++ (littleEndian 2 (length (s .kinds)) ++ (littleEndian 8 (s .start) ++ (s .kinds ++ s .operands)))
+
+-- E, and what stands in the bytes.
+unfoldable pub eventCount : List ℕ → ℕ
+eventCount bytes = number (take 2 (drop 1 bytes))
+
+unfoldable pub decoded : List ℕ → Script
+decoded bytes =
+    let events = eventCount bytes in
+    script (number (take 1 bytes)) (number (take 8 (drop 3 bytes))) (take events (drop 11 bytes)) (drop (11 + events) bytes)
+
+-- How reading or writing ends: turned down with a number, or done.
+pub data Ended (A : Type 0) : Type 0 where
+  refused : (number : ℕ) → Ended A
+  done : A → Ended A
+
+-- 10: "events over 4,096, script not 11 + 3E bytes".
+unfoldable pub notSized : (events bytes : ℕ) → Bool
+notSized events bytes = ltb 4_096 events || not (eqb bytes (11 + 3 * events))
+
+-- 1: "n not 2..16, start 0".
+unfoldable pub notOpening : Script → Bool
+notOpening s = not (sizeInRange (s .n)) || eqb (s .start) 0
+
+-- 11: "kind not 1..9, or an unused operand not 0", of any event.
+unfoldable pub allEvents : (kinds operands : List ℕ) → Bool
+allEvents kinds operands = allBelow (length kinds) (λ i. not (notEvent (getD kinds i 0) (getD operands (2 * i + 1) 0)))
+
+-- 12: "a lent output array shorter than E kinds, 2E operands (reading)".
+unfoldable pub noRoom : (events kinds operands : ℕ) → Bool
+noRoom events kinds operands = ltb kinds events || ltb operands (2 * events)
+
+-- "Reading a script tests 9, 10, 1, 11, 12": into arrays of so many places.
+unfoldable pub reading : (bytes : List ℕ) (kinds operands : ℕ) → Ended Script
+reading bytes kinds operands =
+    let events = eventCount bytes in
+    let s = decoded bytes in
+    if ltb (length bytes) 11 then refused 9
+    else if notSized events (length bytes) then refused 10
+    else if notOpening s then refused 1
+    else if not (allEvents (s .kinds) (s .operands)) then refused 11
+    else if noRoom events kinds operands then refused 12
+    else done s
+
+-- "writing 10, 1, 11, 12": into an array of so many bytes.
+unfoldable pub writing : Script → (bytes : ℕ) → Ended (List ℕ)
+writing s bytes =
+    if notEvents (length (s .kinds)) (length (s .operands)) then refused 10
+    else if notOpening s then refused 1
+    else if not (allEvents (s .kinds) (s .operands)) then refused 11
+    else if ltb bytes (11 + 3 * length (s .kinds)) then refused 12
+    else done (encoded s)
