@@ -11,10 +11,10 @@ use borrow.Author.Tests.{eq-eqb, ne-eqb, eqb-true, eqb-false, ltb-false, not-fal
 use Rattle.base.proofs.Flags.{neither, choose, clash}
 use Rattle.base.specs.Lists.{tabulate}
 use Rattle.base.proofs.Loops.{tabulate-more}
-use Rattle.model.specs.Memory.{Network, sizeInRange, fresh}
-use Rattle.model.specs.Calls.{Call, effect, refused, accepted, after, refuse_when_otherwise_, step, run}
+use Rattle.model.specs.Memory.{Network, fresh}
+use Rattle.model.specs.Calls.{Call, effect, refused, accepted, after, refuse_when_otherwise_, notOpening, step, run}
 use Rattle.model.specs.Calls.{Open, Up, Down, Solicit, GiveUp, Expire, Deliver, Lose, Duplicate}
-use Rattle.model.specs.Events.{usesOne, notEvent, callOf, Event, calls, traces, noEvent, eventOf, eventAt, eventsOf, callsIn, notEvents, running}
+use Rattle.model.specs.Events.{usesOne, notEvent, callOf, Event, calls, traces, noEvent, eventOf, eventAt, callsIn, notEvents, afterFirst, running}
 use Rattle.model.proofs.Refusals.{OnMemory}
 
 -- A list of calls and then another.
@@ -31,10 +31,11 @@ calls-append (traces a t ∷ xs) ys = calls-append xs ys
 calls-append (noEvent ∷ xs) ys = calls-append xs ys
 
 -- One event more.
-pub run-more : (kinds operands : List ℕ) (i : ℕ) (net : Network)
-    → run (callsIn (tabulate (i + 1) (eventAt kinds operands))) net
-    ≡ run (callsIn (eventAt kinds operands i ∷ [])) (run (callsIn (tabulate i (eventAt kinds operands))) net)
-run-more kinds operands i net =
+pub after-more : (n start : ℕ) (kinds operands : List ℕ) (i : ℕ)
+    → afterFirst n start kinds operands (i + 1) ≡ run (callsIn (eventAt kinds operands i ∷ [])) (afterFirst n start kinds operands i)
+unfolding afterFirst
+after-more n start kinds operands i =
+    let net = fresh n start in
     let events = tabulate i (eventAt kinds operands) in
     let one = eventAt kinds operands i ∷ [] in
     ap (λ (l : List Event). run (callsIn l) net) (tabulate-more i (eventAt kinds operands))
@@ -187,12 +188,12 @@ module _ (n start : ℕ) (kinds operands : List ℕ) where
   unfolding running refuse_when_otherwise_
   running-10 h = rw h
 
-  pub running-1 : notEvents (length kinds) (length operands) ≡ false → not (sizeInRange n) || eqb start 0 ≡ true → running n start kinds operands ≡ refused 1
+  pub running-1 : notEvents (length kinds) (length operands) ≡ false → notOpening n start ≡ true → running n start kinds operands ≡ refused 1
   unfolding running refuse_when_otherwise_
   running-1 h k = rw (h, k)
 
-  pub running-accepted : notEvents (length kinds) (length operands) ≡ false → not (sizeInRange n) || eqb start 0 ≡ false
-      → running n start kinds operands ≡ accepted (effect 0 0 (run (callsIn (eventsOf kinds operands)) (fresh n start)))
+  pub running-accepted : notEvents (length kinds) (length operands) ≡ false → notOpening n start ≡ false
+      → running n start kinds operands ≡ accepted (effect 0 0 (afterFirst n start kinds operands (length kinds)))
   unfolding running refuse_when_otherwise_
   running-accepted h k = rw (h, k)
 

@@ -14,7 +14,8 @@ use Rattle.model.specs.Memory.{Packet, Network, linkUp, numberAt, isActi
 use Rattle.model.specs.Memory.{fresh, airLimit, sizeInRange, memoryInRange}
 use Rattle.model.specs.Calls.{Call, Open, Up, Down, Solicit, GiveUp, Expire, Deliver, Lose, Duplicate}
 use Rattle.model.specs.Calls.{effect, Result, refused, accepted, refuse_when_otherwise_, limited, notStation, notPair, notPacket}
-use Rattle.model.specs.Calls.{send, sending, neighbours, copies, errors, down, solicit, removePacket, deliver, opening, step}
+use Rattle.model.specs.Calls.{send, sending, neighbours, copies, errors, down, solicit, removePacket, deliver, notOpening, opening, step, run}
+use Rattle.model.specs.Walks.{Reached}
 
 module _ (number : ℕ) (case : Bool) (rest : Result) where
   pub refuse-holds : case ≡ true → refuse number when case otherwise rest ≡ refused number
@@ -27,21 +28,32 @@ module _ (number : ℕ) (case : Bool) (rest : Result) where
 
 -- Open.
 module _ (n start : ℕ) where
-  pub open-1 : (net : Network) → not (sizeInRange n) || eqb start 0 ≡ true → step (Open n start) net ≡ refused 1
+  pub open-1 : (net : Network) → notOpening n start ≡ true → step (Open n start) net ≡ refused 1
   unfolding step opening
   open-1 net e = refuse-holds 1 _ _ e
 
-  pub opening-accepted : not (sizeInRange n) || eqb start 0 ≡ false → opening n start ≡ accepted (effect 0 0 (fresh n start))
+  pub opening-accepted : notOpening n start ≡ false → opening n start ≡ accepted (effect 0 0 (fresh n start))
   unfolding opening
   opening-accepted e = refuse-passes 1 _ _ e
 
-  pub open-accepted : (net : Network) → not (sizeInRange n) || eqb start 0 ≡ false → step (Open n start) net ≡ accepted (effect 0 0 (fresh n start))
+  pub open-accepted : (net : Network) → notOpening n start ≡ false → step (Open n start) net ≡ accepted (effect 0 0 (fresh n start))
   unfolding step
   open-accepted net e = opening-accepted e
 
+  -- What calls make of it is a network that a list of calls reaches.
+  pub fresh-reached : notOpening n start ≡ false → (calls : List Call) (net : Network) → net ≡ run calls (fresh n start) → Reached net
+  fresh-reached e calls net h = record {
+    n = n;
+    start = start;
+    opened = effect 0 0 (fresh n start);
+    opens = opening-accepted e;
+    calls = calls;
+    left = h;
+  }
+
   -- What its test tells.
-  pub opening-tells : not (sizeInRange n) || eqb start 0 ≡ false → (2 ≤ n) × (n ≤ 16) × (0 < start)
-  unfolding sizeInRange
+  pub opening-tells : notOpening n start ≡ false → (2 ≤ n) × (n ≤ 16) × (0 < start)
+  unfolding notOpening sizeInRange
   opening-tells e =
       let w = neither (not (sizeInRange n)) (eqb start 0) e in
       let x = both (leb 2 n) (leb n 16) (not-false (sizeInRange n) (w .0)) in

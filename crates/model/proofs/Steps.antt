@@ -1,20 +1,19 @@
 -- Every call keeps the invariant, and so does every list of calls. After an accepted call memory is in range.
 use Prim.Native.Nat.{ℕ, _≤_, _<_}
 use mathlib.Core.Path.{_≡_, refl, subst}
-use mathlib.Core.Bool.{Bool, true, false, not, _||_}
+use mathlib.Core.Bool.{Bool, true, false, not}
 use mathlib.Core.List.{List, [], _∷_}
 use lib.ListN.{length, set, length-append, length-take, length-drop}
-use lib.Dec.{eqb}
 use native.Mathlib.Omega.{arith}
 use borrow.Author.Tests.{ltb-false, not-false}
 use Rattle.base.proofs.Flags.{choose}
 use Rattle.base.proofs.Lists.{mem-at}
 use Rattle.model.specs.Memory.{Network, zeroPacket, setLink, setRow, setActive}
 use Rattle.model.specs.Memory.{setRows, setLinks, setNumbers, setSoughts, setActives, setAir}
-use Rattle.model.specs.Memory.{fresh, sizeInRange, memoryInRange}
+use Rattle.model.specs.Memory.{fresh, memoryInRange}
 use Rattle.model.specs.Calls.{Call, Open, Up, Down, Solicit, GiveUp, Expire, Deliver, Lose, Duplicate}
 use Rattle.model.specs.Calls.{Effect, effect, Result, refused, accepted, after, refuse_when_otherwise_, limited, notPair, notPacket}
-use Rattle.model.specs.Calls.{solicit, removePacket, opening, step, run}
+use Rattle.model.specs.Calls.{solicit, removePacket, notOpening, opening, step, run}
 use Rattle.model.proofs.Invariant.{Good, good-numbers, good-actives, good-row, good-sought, cell-empty}
 use Rattle.model.proofs.Range.{Sized, Kept, kept-in-range, in-range-kept}
 use Rattle.model.proofs.Fresh.{fresh-kept}
@@ -49,7 +48,7 @@ good-solicit a t net ok ha ht =
     good-sending _ (good-actives _ (good-sought _ (good-numbers net ok _) a t ht) _) 0 _
     (copies-ok net a ha _ (record { source-below = ha; numbered = omega arith; destination-below = ht; ranged = ok .tables .cell a t ha ht .ranged }) tt)
 
-opening-kept : {Made : Type 0} (n start : ℕ) → (not (sizeInRange n) || eqb start 0) ≡ false → Kept Made (fresh n start)
+opening-kept : {Made : Type 0} (n start : ℕ) → notOpening n start ≡ false → Kept Made (fresh n start)
 opening-kept n start e = let w = opening-tells n start e in fresh-kept n start (w .0) (w .1) (w .2)
 
 -- A call turned down leaves the network; the tests that it passed tell what the rest may use.
@@ -112,7 +111,7 @@ not-turned-down k false r e h = (refl, h)
 pub opened-kept : {Made : Type 0} (n start : ℕ) (e : Effect) → opening n start ≡ accepted e → Kept Made (e .net)
 unfolding opening
 opened-kept {Made} n start e h =
-    let w = not-turned-down 1 (not (sizeInRange n) || eqb start 0) (accepted (effect 0 0 (fresh n start))) e h in
+    let w = not-turned-down 1 (notOpening n start) (accepted (effect 0 0 (fresh n start))) e h in
     let same : effect 0 0 (fresh n start) ≡ e = cc in
     subst (λ z. Kept Made (z .net)) same (opening-kept n start (w .0))
 

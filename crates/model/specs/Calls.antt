@@ -294,9 +294,12 @@ deliver k net =
 -- The calls. "Calls test 1, 2, 3 to 6, 8, 7." Only Down, Solicit, Deliver and Duplicate add to the air, so only they test 7.
 
 -- Open: "fresh memory. It reads no earlier memory and tests 1 for n, start and, at the console, the slice's length only."
+unfoldable pub notOpening : (n start : ℕ) → Bool
+notOpening n start = not (sizeInRange n) || eqb start 0
+
 unfoldable pub opening : ℕ → ℕ → Result
 opening n start =
-    refuse 1 when not (sizeInRange n) || eqb start 0 otherwise
+    refuse 1 when notOpening n start otherwise
     accepted (effect 0 0 (fresh n start))
 
 unfoldable pub step : Call → Network → Result

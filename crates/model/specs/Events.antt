@@ -6,9 +6,9 @@ use lib.ListN.{length, getD}
 use lib.Dec.{ltb, eqb}
 use Rattle.base.specs.Choice.{if_then_else_}
 use Rattle.base.specs.Lists.{tabulate}
-use Rattle.model.specs.Memory.{sizeInRange, fresh}
+use Rattle.model.specs.Memory.{Network, fresh}
 use Rattle.model.specs.Calls.{Call, Up, Down, Solicit, GiveUp, Expire, Deliver, Lose, Duplicate}
-use Rattle.model.specs.Calls.{effect, Result, accepted, refuse_when_otherwise_, run}
+use Rattle.model.specs.Calls.{effect, Result, accepted, refuse_when_otherwise_, notOpening, run}
 
 -- 11: "kind not 1..9, or an unused operand not 0". "In 4, 6, 7, 8 b is unused".
 unfoldable pub usesOne : ℕ → Bool
@@ -60,8 +60,13 @@ unfoldable pub notEvents : (kinds operands : ℕ) → Bool
 notEvents kinds operands = ltb 4_096 kinds || not (eqb operands (2 * kinds))
 
 -- Events from fresh memory, one after the other.
-unfoldable pub running : (n start : ℕ) (kinds operands : List ℕ) → Result
-running n start kinds operands =
-    refuse 10 when notEvents (length kinds) (length operands) otherwise
-    refuse 1 when not (sizeInRange n) || eqb start 0 otherwise
-    accepted (effect 0 0 (run (callsIn (eventsOf kinds operands)) (fresh n start)))
+module _ (n start : ℕ) (kinds operands : List ℕ) where
+  -- The network after the first i of them.
+  unfoldable pub afterFirst : ℕ → Network
+  afterFirst i = run (callsIn (tabulate i (eventAt kinds operands))) (fresh n start)
+
+  unfoldable pub running : Result
+  running =
+      refuse 10 when notEvents (length kinds) (length operands) otherwise
+      refuse 1 when notOpening n start otherwise
+      accepted (effect 0 0 (afterFirst (length kinds)))

@@ -7,9 +7,9 @@ use lib.Dec.{eqb}
 use Rattle.base.specs.Lists.{below, tabulate}
 use Rattle.label.specs.declared.Label.{Label}
 use Rattle.label.specs.Label.{isUnassigned}
-use Rattle.model.specs.Memory.{Network, labelAt, rowAt, fresh, stations}
-use Rattle.model.specs.Calls.{Result, refused, accepted, step, run, trace}
-use Rattle.model.specs.Events.{Event, calls, traces, noEvent, eventAt, callsIn}
+use Rattle.model.specs.Memory.{Network, labelAt, rowAt, stations}
+use Rattle.model.specs.Calls.{Result, refused, accepted, step, trace}
+use Rattle.model.specs.Events.{Event, calls, traces, noEvent, eventAt, afterFirst}
 
 -- "index, kind, a, b, answer .., packets sent .., packets in the air after it, hops".
 pub record Line : Type 0 where
@@ -64,16 +64,13 @@ labelLines net (suc i) = labelLines net i ++ stationLines net i
 
 -- A rehearsal of these events, from fresh memory of n stations.
 module _ (n start : ℕ) (kinds operands : List ℕ) where
-  -- The network after the first i events.
-  unfoldable pub afterFirst : ℕ → Network
-  afterFirst i = run (callsIn (tabulate i (eventAt kinds operands))) (fresh n start)
-
   unfoldable pub lineAt : ℕ → Line
-  lineAt i = lineOf i (getD kinds i 0) (getD operands (2 * i) 0) (getD operands (2 * i + 1) 0) (afterFirst i) (eventAt kinds operands i)
+  lineAt i =
+      lineOf i (getD kinds i 0) (getD operands (2 * i) 0) (getD operands (2 * i + 1) 0) (afterFirst n start kinds operands i) (eventAt kinds operands i)
 
   -- "per event: ..; then `L` i t s m d ..".
   unfoldable pub eventLines : List Line
   eventLines = tabulate (length kinds) lineAt
 
   unfoldable pub routeLines : List LabelLine
-  routeLines = let net = afterFirst (length kinds) in labelLines net (net .n)
+  routeLines = let net = afterFirst n start kinds operands (length kinds) in labelLines net (net .n)

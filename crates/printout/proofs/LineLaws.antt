@@ -2,7 +2,7 @@
 use Prim.Native.Nat.{ℕ, zero, suc, _+_, _≤_, _<_}
 use mathlib.Core.Path.{_≡_, refl, sym, ap, _∙_}
 use mathlib.Core.Bool.{true, false, not, _&&_}
-use mathlib.Core.List.{List, [], _∷_, _++_, map, append-nil, map-append}
+use mathlib.Core.List.{List, [], _∷_, _++_, map, append-nil, map-append, flatMap}
 use lib.ListN.{length, getD, take}
 use lib.Seq.{take-suc}
 use lib.Dec.{eqb}
@@ -18,12 +18,12 @@ use Rattle.network.specs.declared.Row.{Row}
 use Rattle.network.specs.declared.Memory.{Memory}
 use Rattle.network.specs.View.{zeroRow, entryOf, rowOf, labelOf, view}
 use Rattle.network.proofs.ViewLaws.{label-at, row-at}
-use Rattle.printout.specs.Text.{concatMap, field, refusalText, labelText}
-use Rattle.printout.proofs.TextLaws.{concat-append, concat-one}
+use Rattle.printout.specs.Text.{field, refusalText, labelText}
+use Rattle.printout.proofs.TextLaws.{flat-append, flat-one}
 
 -- The text of a refusal, in the parts that are put.
 pub refusal-text : (number : ℕ) → refusalText number ≡ (82 ∷ field number) ++ (10 ∷ [])
-unfolding refusalText concatMap
+unfolding refusalText flatMap
 refusal-text number = rw (append-nil (field number))
 
 -- The stations of a row are the first of its array, which has four places.
@@ -50,7 +50,7 @@ module _ (i t : ℕ) (l : Label) (row : Row) where
       i ∷ t ∷ l .s .0 ∷ l .m ∷ l .d ∷ getD s 0 0 ∷ getD s 1 0 ∷ getD s 2 0 ∷ getD s 3 0 ∷ []
 
   pub label-text : length (row .stations) ≡ 4 → row .count ≤ 4
-      → labelText (labelLine i t l (stations (rowOf row))) ≡ (76 ∷ concatMap field (take (5 + row .count) numbers)) ++ (10 ∷ [])
+      → labelText (labelLine i t l (stations (rowOf row))) ≡ (76 ∷ flatMap field (take (5 + row .count) numbers)) ++ (10 ∷ [])
   unfolding labelText rowOf
   label-text h k =
       let five : 5 + row .count ≡ suc (suc (suc (suc (suc (row .count))))) = omega arith in
@@ -72,20 +72,20 @@ module _ (memory : Memory) (i t : ℕ) (h : place i t < 256) where
 -- The lines of station i for the destinations below t, one more at a time.
 module _ (net : Network) (i : ℕ) where
   unfoldable pub textBelow : ℕ → List ℕ
-  textBelow t = concatMap labelText (map (labelLineAt net i) (below t (isListed net i)))
+  textBelow t = flatMap labelText (map (labelLineAt net i) (below t (isListed net i)))
 
   pub text-yes : (t : ℕ) → isListed net i t ≡ true → textBelow (t + 1) ≡ textBelow t ++ labelText (labelLineAt net i t)
   unfolding textBelow
   text-yes t e =
-      ap (concatMap labelText) (map-below-yes (isListed net i) (labelLineAt net i) [] t e)
-      ∙ concat-one labelText (map (labelLineAt net i) (below t (isListed net i))) (labelLineAt net i t)
+      ap (flatMap labelText) (map-below-yes (isListed net i) (labelLineAt net i) [] t e)
+      ∙ flat-one labelText (map (labelLineAt net i) (below t (isListed net i))) (labelLineAt net i t)
 
   pub text-no : (t : ℕ) → isListed net i t ≡ false → textBelow (t + 1) ≡ textBelow t
   unfolding textBelow
-  text-no t e = ap (concatMap labelText) (map-below-no (isListed net i) (labelLineAt net i) [] t e)
+  text-no t e = ap (flatMap labelText) (map-below-no (isListed net i) (labelLineAt net i) [] t e)
 
 -- The lines of one more station.
 pub lines-more : (net : Network) (i : ℕ)
-    → concatMap labelText (labelLines net (i + 1)) ≡ concatMap labelText (labelLines net i) ++ concatMap labelText (stationLines net i)
+    → flatMap labelText (labelLines net (i + 1)) ≡ flatMap labelText (labelLines net i) ++ flatMap labelText (stationLines net i)
 unfolding labelLines
-lines-more net i = rw add-one (concat-append labelText (labelLines net i) (stationLines net i))
+lines-more net i = rw add-one (flat-append labelText (labelLines net i) (stationLines net i))

@@ -2,21 +2,20 @@
 use Prim.Native.Nat.{ℕ, _+_, _*_, _≤_}
 use mathlib.Core.Path.{_≡_, refl, sym, ap, _∙_}
 use mathlib.Core.Logic.{_≢_}
-use mathlib.Core.Bool.{false, not, _||_}
-use mathlib.Core.List.{List, _++_}
+use mathlib.Core.Bool.{false}
+use mathlib.Core.List.{List, _++_, flatMap}
 use lib.ListN.{length, getD, take, replicate, length-replicate}
 use lib.Seq.{length-take-le}
-use lib.Dec.{eqb}
 use native.Mathlib.Omega.{arith}
 use Rattle.base.specs.Lists.{tabulate}
 use Rattle.base.proofs.Loops.{tabulate-more}
 use Rattle.codec.proofs.ByteLaws.{over-first}
-use Rattle.model.specs.Memory.{Network, sizeInRange, fresh}
-use Rattle.model.specs.Calls.{effect}
-use Rattle.model.specs.Walks.{Reached, LoopFree}
-use Rattle.model.specs.Events.{eventAt, callsIn}
-use Rattle.model.specs.Printout.{Line, line, lineOf, labelLines, afterFirst, lineAt, eventLines, routeLines}
-use Rattle.model.proofs.Refusals.{opening-accepted}
+use Rattle.model.specs.Memory.{Network}
+use Rattle.model.specs.Calls.{notOpening}
+use Rattle.model.specs.Walks.{LoopFree}
+use Rattle.model.specs.Events.{eventAt, callsIn, afterFirst}
+use Rattle.model.specs.Printout.{Line, line, lineOf, labelLines, lineAt, eventLines, routeLines}
+use Rattle.model.proofs.Refusals.{fresh-reached}
 use Rattle.model.proofs.Walking.{loop-free}
 use Rattle.network.specs.declared.Memory.{Memory}
 use Rattle.network.specs.View.{view}
@@ -25,18 +24,18 @@ use Rattle.steps.specs.Happens.{Happens}
 use Rattle.steps.proofs.HappenLaws.{happens-line}
 use Rattle.sandbox.proofs.RunLaws.{Ran}
 use Rattle.script.specs.declared.Found.{Found}
-use Rattle.script.specs.Script.{Script, eventCount, decoded, notOpening, reading}
+use Rattle.script.specs.Script.{eventCount, decoded, reading}
 use Rattle.script.specs.Contracts.{Reads}
 use Rattle.script.proofs.ScriptLaws.{sized-tell, kinds-length, operands-length, reads-answer, reads-script}
 use Rattle.script.proofs.RoundTrip.{read-opens, too-long}
-use Rattle.printout.specs.Text.{concatMap, refusalText, eventText, labelText, rehearsalText}
+use Rattle.printout.specs.Text.{refusalText, eventText, labelText, rehearsalText}
 use Rattle.printout.specs.Printed.{textOf, printed, RoutesLoopFree}
-use Rattle.printout.proofs.TextLaws.{concat-one}
+use Rattle.printout.proofs.TextLaws.{flat-one}
 
 module _ (n start : ℕ) (kinds operands : List ℕ) where
   -- The lines of the first i events.
   unfoldable pub textFirst : ℕ → List ℕ
-  textFirst i = concatMap eventText (tabulate i (lineAt n start kinds operands))
+  textFirst i = flatMap eventText (tabulate i (lineAt n start kinds operands))
 
   -- The line of the next event has the numbers that the code gave.
   module _ (i : ℕ) (memory : Memory) (ran : Ran n start kinds operands i memory) (r : Happened) (h : Happens memory (eventAt kinds operands i) r) where
@@ -55,19 +54,19 @@ module _ (n start : ℕ) (kinds operands : List ℕ) where
     pub text-more : textFirst (i + 1) ≡ textFirst i ++ eventText next
     unfolding textFirst
     text-more =
-        ap (concatMap eventText) (tabulate-more i (lineAt n start kinds operands))
-        ∙ concat-one eventText (tabulate i (lineAt n start kinds operands)) (lineAt n start kinds operands i)
+        ap (flatMap eventText) (tabulate-more i (lineAt n start kinds operands))
+        ∙ flat-one eventText (tabulate i (lineAt n start kinds operands)) (lineAt n start kinds operands i)
         ∙ ap (λ (l : Line). textFirst i ++ eventText l) line-next
 
   -- After the last event come the labels of its memory.
   pub text-whole : (memory : Memory) → Ran n start kinds operands (length kinds) memory
-      → textFirst (length kinds) ++ concatMap labelText (labelLines (view memory) (view memory .n)) ≡ rehearsalText n start kinds operands
+      → textFirst (length kinds) ++ flatMap labelText (labelLines (view memory) (view memory .n)) ≡ rehearsalText n start kinds operands
   unfolding textFirst rehearsalText eventLines routeLines afterFirst
-  text-whole memory ran = ap (λ (net : Network). textFirst (length kinds) ++ concatMap labelText (labelLines net (net .n))) (ran .left)
+  text-whole memory ran = ap (λ (net : Network). textFirst (length kinds) ++ flatMap labelText (labelLines net (net .n))) (ran .left)
 
 -- What is rehearsed of a script that was read into the first places of two arrays, and that its text is the printout.
 pub record Rehearsed (bytes kinds operands : List ℕ) (r : Found) : Type 0 where
-  pub opens : not (sizeInRange (r .n)) || eqb (r .start) 0 ≡ false
+  pub opens : notOpening (r .n) (r .start) ≡ false
   pub few : r .events ≤ 4_096
   pub kinds-long : (r .events ≤ length kinds) × (length (take (r .events) kinds) ≡ r .events)
   pub operands-long : (2 * r .events ≤ length operands) × (length (take (2 * r .events) operands) ≡ 2 * r .events)
@@ -91,7 +90,7 @@ module _ (bytes kinds operands : List ℕ) (r : Found) where
     printed-refusal z = ap textOf (sym (reads-answer bytes zeroKinds zeroOperands r kinds operands h z)) ∙ printed-of
 
     pub rehearsed : r .answer ≡ 0 → Rehearsed bytes kinds operands r
-    unfolding textOf notOpening
+    unfolding textOf
     rehearsed z =
         let w = reads-script bytes zeroKinds zeroOperands r kinds operands h z in
         let s = decoded bytes in
@@ -100,7 +99,7 @@ module _ (bytes kinds operands : List ℕ) (r : Found) where
         let first = over-first (s .kinds) zeroKinds kinds (r .events) (w .kinds-after) k in
         let second = over-first (s .operands) zeroOperands operands (2 * r .events) (w .operands-after) o in
         record {
-          opens = (λ i. not (sizeInRange (w .n i)) || eqb (w .start i) 0) ∙ w .sized .opens;
+          opens = (λ i. notOpening (w .n i) (w .start i)) ∙ w .sized .opens;
           few = omega (arith, w .count, sized-tell (eventCount bytes) (length bytes) (w .sized .counted));
           kinds-long = (first .0, ap length (first .1) ∙ sym k);
           operands-long = (second .0, ap length (second .1) ∙ sym o);
@@ -108,20 +107,11 @@ module _ (bytes kinds operands : List ℕ) (r : Found) where
         }
 
 -- The network whose labels are printed is one that a list of calls reaches, so no walk along its routes goes in a circle.
-reached : (s : Script) → notOpening s ≡ false → Reached (afterFirst (s .n) (s .start) (s .kinds) (s .operands) (length (s .kinds)))
-unfolding afterFirst notOpening
-reached s h = record {
-  n = s .n;
-  start = s .start;
-  opened = effect 0 0 (fresh (s .n) (s .start));
-  opens = opening-accepted (s .n) (s .start) h;
-  calls = callsIn (tabulate (length (s .kinds)) (eventAt (s .kinds) (s .operands)));
-  left = refl;
-}
-
 pub routes-loop-free : (bytes : List ℕ) → RoutesLoopFree bytes
-unfolding RoutesLoopFree LoopFree
-routes-loop-free bytes s e = loop-free _ (reached s (read-opens bytes s 4_096 8_192 e))
+unfolding RoutesLoopFree LoopFree afterFirst
+routes-loop-free bytes s e =
+    let calls = callsIn (tabulate (length (s .kinds)) (eventAt (s .kinds) (s .operands))) in
+    loop-free _ (fresh-reached (s .n) (s .start) (read-opens bytes s 4_096 8_192 e) calls _ refl)
 
 -- To read 12,300 bytes is enough: more than any script may have are turned down as the whole of them would be.
 pub printed-cut : (bytes : List ℕ) → 12_300 ≤ length bytes → printed (take 12_300 bytes) ≡ printed bytes

@@ -1,7 +1,7 @@
 -- Laws of decimal fields, and of text put into an array.
 use Prim.Native.Nat.{ℕ, zero, suc, _+_, _-_, _/_, _%_, _^_, _≤_, _<_}
 use mathlib.Core.Path.{_≡_, refl, sym, ap, _∙_}
-use mathlib.Core.List.{List, [], _∷_, _++_, append-assoc, append-nil}
+use mathlib.Core.List.{List, [], _∷_, _++_, append-assoc, append-nil, flatMap}
 use lib.ListN.{length, getD, set, take, length-append}
 use lib.Seq.{take-suc, length-sets}
 use lib.Dec.{ltb}
@@ -12,7 +12,7 @@ use borrow.Author.Tests.{lt-ltb, le-ltb}
 use Rattle.base.proofs.Flags.{choose, Against, less, equal, more, against}
 use Rattle.codec.proofs.ByteLaws.{sets-append, take-sets}
 use Rattle.io.specs.Digits.{digits, Fewest}
-use Rattle.printout.specs.Text.{concatMap, digitsOf, decimal, field}
+use Rattle.printout.specs.Text.{digitsOf, decimal, field}
 use Rattle.printout.specs.Contracts.{Puts}
 
 -- The fewest digits that hold a number below 10 ^ k are at most k, and they are its decimal text.
@@ -72,32 +72,32 @@ abbrev pub room : (most : List ℕ) → ℕ
 room [] = 0
 room (k ∷ most) = k + 1 + room most
 
-pub fields-within : (most l : List ℕ) → Digits most l → length (concatMap field l) ≤ room most
-unfolding concatMap
+pub fields-within : (most l : List ℕ) → Digits most l → length (flatMap field l) ≤ room most
+unfolding flatMap
 fields-within [] [] h = omega arith
 fields-within (k ∷ most) (x ∷ l) h =
-    omega (arith, length-append (field x) (concatMap field l), field-within x k (h .0) (h .1), fields-within most l (h .2))
+    omega (arith, length-append (field x) (flatMap field l), field-within x k (h .0) (h .1), fields-within most l (h .2))
 
 -- Texts one after the other.
 module _ {A : Type 0} (f : A → List ℕ) where
-  pub concat-append : (xs ys : List A) → concatMap f (xs ++ ys) ≡ concatMap f xs ++ concatMap f ys
-  unfolding concatMap
-  concat-append [] ys = refl
-  concat-append (x ∷ xs) ys = rw (concat-append xs ys) (sym (append-assoc (f x) (concatMap f xs) (concatMap f ys)))
+  pub flat-append : (xs ys : List A) → flatMap f (xs ++ ys) ≡ flatMap f xs ++ flatMap f ys
+  unfolding flatMap
+  flat-append [] ys = refl
+  flat-append (x ∷ xs) ys = rw (flat-append xs ys) (sym (append-assoc (f x) (flatMap f xs) (flatMap f ys)))
 
-  pub concat-one : (xs : List A) (x : A) → concatMap f (xs ++ (x ∷ [])) ≡ concatMap f xs ++ f x
-  unfolding concatMap
-  concat-one xs x = concat-append xs (x ∷ []) ∙ rw (append-nil (f x))
+  pub flat-one : (xs : List A) (x : A) → flatMap f (xs ++ (x ∷ [])) ≡ flatMap f xs ++ f x
+  unfolding flatMap
+  flat-one xs x = flat-append xs (x ∷ []) ∙ rw (append-nil (f x))
 
-  pub concat-prefix : (l : List A) (k : ℕ) → length (concatMap f (take k l)) ≤ length (concatMap f l)
-  unfolding concatMap
-  concat-prefix l zero = omega arith
-  concat-prefix [] (suc k) = omega arith
-  concat-prefix (x ∷ l) (suc k) =
-      omega (arith, length-append (f x) (concatMap f (take k l)), length-append (f x) (concatMap f l), concat-prefix l k)
+  pub flat-prefix : (l : List A) (k : ℕ) → length (flatMap f (take k l)) ≤ length (flatMap f l)
+  unfolding flatMap
+  flat-prefix l zero = omega arith
+  flat-prefix [] (suc k) = omega arith
+  flat-prefix (x ∷ l) (suc k) =
+      omega (arith, length-append (f x) (flatMap f (take k l)), length-append (f x) (flatMap f l), flat-prefix l k)
 
-  pub concat-take : (l : List A) (i : ℕ) (d : A) → i < length l → concatMap f (take (i + 1) l) ≡ concatMap f (take i l) ++ f (getD l i d)
-  concat-take l i d h = rw (add-one, take-suc l i d h) (concat-one (take i l) (getD l i d))
+  pub flat-take : (l : List A) (i : ℕ) (d : A) → i < length l → flatMap f (take (i + 1) l) ≡ flatMap f (take i l) ++ f (getD l i d)
+  flat-take l i d h = rw (add-one, take-suc l i d h) (flat-one (take i l) (getD l i d))
 
 -- Nothing put, one byte put, and a text put after another.
 pub puts-none : (before : List ℕ) (at : ℕ) → Puts before at [] at before

@@ -6,7 +6,7 @@ use mathlib.Core.List.{List}
 use lib.ListN.{length}
 use Rattle.model.specs.Calls.{trace}
 use Rattle.model.specs.Walks.{WalksEnd}
-use Rattle.model.specs.Printout.{afterFirst}
+use Rattle.model.specs.Events.{afterFirst}
 use Rattle.script.specs.Script.{Script, Ended, refused, done, reading}
 use Rattle.printout.specs.Text.{refusalText, rehearsalText}
 

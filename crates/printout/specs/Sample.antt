@@ -3,15 +3,16 @@ use Prim.Native.Nat.{ℕ}
 use Prim.Native.Char.{code}
 use Prim.Native.String.{String, [] as none, _∷_ as _before_}
 use mathlib.Core.Path.{_≡_, refl, ap, _∙_}
-use mathlib.Core.List.{List, [], _∷_, _++_}
+use mathlib.Core.List.{List, [], _∷_, _++_, flatMap}
 use Rattle.base.specs.Lists.{allBelow}
 use Rattle.codec.specs.Bytes.{number}
 use Rattle.model.specs.Memory.{sizeInRange}
+use Rattle.model.specs.Calls.{notOpening}
 use Rattle.model.specs.Events.{usesOne, notEvent}
 use Rattle.model.specs.Printout.{Line, LabelLine, routeLines}
 use Rattle.model.specs.Sample.{kinds, operands, lines, routes, prints}
-use Rattle.script.specs.Script.{script, eventCount, decoded, done, notSized, notOpening, allEvents, noRoom, reading}
-use Rattle.printout.specs.Text.{concatMap, digitsOf, decimal, field, ended, eventText, labelText, rehearsalText}
+use Rattle.script.specs.Script.{script, eventCount, decoded, done, notSized, allEvents, noRoom, reading}
+use Rattle.printout.specs.Text.{digitsOf, decimal, field, ended, eventText, labelText, rehearsalText}
 use Rattle.printout.specs.Printed.{textOf, printed}
 
 -- The ASCII codes of a text.
@@ -44,9 +45,9 @@ reads : reading example 4_096 8_192 ≡ done (script 3 1 kinds operands)
 unfolding reading eventCount decoded notSized notOpening allEvents noRoom number example kinds operands sizeInRange notEvent usesOne allBelow
 reads = refl
 
-pub prints-text : printed example ≡ concatMap (λ line. ended (codes line)) text
-unfolding printed textOf rehearsalText concatMap digitsOf decimal field eventText labelText lines routes codes text
+pub prints-text : printed example ≡ flatMap (λ line. ended (codes line)) text
+unfolding printed textOf rehearsalText flatMap digitsOf decimal field eventText labelText lines routes codes text
 prints-text =
     ap textOf reads
-    ∙ ap (λ (l : List Line). concatMap eventText l ++ concatMap labelText (routeLines 3 1 kinds operands)) (prints .0)
-    ∙ ap (λ (l : List LabelLine). concatMap eventText lines ++ concatMap labelText l) (prints .1)
+    ∙ ap (λ (l : List Line). flatMap eventText l ++ flatMap labelText (routeLines 3 1 kinds operands)) (prints .0)
+    ∙ ap (λ (l : List LabelLine). flatMap eventText lines ++ flatMap labelText l) (prints .1)

@@ -1,14 +1,9 @@
 -- The printout's bytes (01, "Scripts and the printout").
 use Prim.Native.Nat.{ℕ, zero, suc, _+_, _/_, _%_}
-use mathlib.Core.List.{List, [], _∷_, _++_}
+use mathlib.Core.List.{List, [], _∷_, _++_, flatMap}
 use lib.Dec.{ltb}
 use Rattle.base.specs.Choice.{if_then_else_}
 use Rattle.model.specs.Printout.{Line, LabelLine, eventLines, routeLines}
-
--- The text of each, one after the other.
-unfoldable pub concatMap : {A : Type 0} → (A → List ℕ) → List A → List ℕ
-concatMap f [] = []
-concatMap f (x ∷ l) = f x ++ concatMap f l
 
 -- "Fields are decimal": the digits of n in ASCII, where it has at most so many.
 unfoldable pub digitsOf : (most n : ℕ) → List ℕ
@@ -28,19 +23,19 @@ ended text = text ++ (10 ∷ [])
 
 -- "A script turned down prints `R`, a space and the number."
 unfoldable pub refusalText : ℕ → List ℕ
-refusalText number = ended (82 ∷ concatMap field (number ∷ []))
+refusalText number = ended (82 ∷ flatMap field (number ∷ []))
 
 -- "per event: index, kind, a, b, answer .., packets sent .., packets in the air after it, hops".
 unfoldable pub eventText : Line → List ℕ
 eventText l =
-    ended (decimal (l .index) ++ concatMap field (l .kind ∷ l .a ∷ l .b ∷ l .answer ∷ l .sent ∷ l .air ∷ l .hops ∷ []))
+    ended (decimal (l .index) ++ flatMap field (l .kind ∷ l .a ∷ l .b ∷ l .answer ∷ l .sent ∷ l .air ∷ l .hops ∷ []))
 
 -- "`L` i t s m d successors in row order".
 unfoldable pub labelText : LabelLine → List ℕ
 labelText l =
-    ended (76 ∷ concatMap field (l .station ∷ l .destination ∷ l .label .s .0 ∷ l .label .m ∷ l .label .d ∷ l .successors))
+    ended (76 ∷ flatMap field (l .station ∷ l .destination ∷ l .label .s .0 ∷ l .label .m ∷ l .label .d ∷ l .successors))
 
 -- "Otherwise per event: ..; then `L` ..".
 unfoldable pub rehearsalText : (n start : ℕ) (kinds operands : List ℕ) → List ℕ
 rehearsalText n start kinds operands =
-    concatMap eventText (eventLines n start kinds operands) ++ concatMap labelText (routeLines n start kinds operands)
+    flatMap eventText (eventLines n start kinds operands) ++ flatMap labelText (routeLines n start kinds operands)

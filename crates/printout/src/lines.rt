@@ -1,5 +1,6 @@
 // The lines of a printout in a lent array.
 ghost use mathlib.Core.Path.{_≡_};
+ghost use mathlib.Core.List.{flatMap};
 ghost use mathlib.Core.Bool.{true, not, _&&_};
 ghost use Prim.Native.Nat.{_+_, _*_, _≤_, _<_};
 ghost use lib.ListN.{length};
@@ -8,7 +9,7 @@ ghost use Rattle.label.specs.Label.{isUnassigned};
 ghost use Rattle.model.specs.Memory.{stations, memoryInRange};
 ghost use Rattle.model.specs.Printout.{line, labelLine, stationLines, labelLines};
 ghost use Rattle.network.specs.View.{rowOf, view};
-ghost use Rattle.printout.specs.Text.{concatMap, refusalText, eventText, labelText};
+ghost use Rattle.printout.specs.Text.{refusalText, eventText, labelText};
 ghost use Rattle.printout.specs.Contracts.{Puts};
 use crate::text::put_decimal;
 use crate::text::put_field;
@@ -106,7 +107,7 @@ fn is_listed(i: u8, t: u8, label: Label) -> bool
 fn put_station_lines(out: &mut [u8], at: usize, memory: Memory, i: u8) -> usize
     requires { ⌜ (memoryInRange (view memory) ≡ true) × (i < memory .n) ⌝ }
     requires { ⌜ at + 69 * memory .n + 200 ≤ length (now out) ⌝ }
-    ensures { λ r. ⌜ Puts (now (out .entry)) at (concatMap labelText (stationLines (view memory) i)) r (now (out .exit)) ⌝ }
+    ensures { λ r. ⌜ Puts (now (out .entry)) at (flatMap labelText (stationLines (view memory) i)) r (now (out .exit)) ⌝ }
     ensures { λ r. ⌜ r ≤ at + 69 * memory .n ⌝ }
 {
     let n = memory.n;
@@ -129,7 +130,7 @@ fn put_station_lines(out: &mut [u8], at: usize, memory: Memory, i: u8) -> usize
 pub fn put_label_lines(out: &mut [u8], at: usize, memory: Memory) -> usize
     requires { ⌜ memoryInRange (view memory) ≡ true ⌝ }
     requires { ⌜ at + 18_000 ≤ length (now out) ⌝ }
-    ensures { λ r. ⌜ Puts (now (out .entry)) at (concatMap labelText (labelLines (view memory) (memory .n))) r (now (out .exit)) ⌝ }
+    ensures { λ r. ⌜ Puts (now (out .entry)) at (flatMap labelText (labelLines (view memory) (memory .n))) r (now (out .exit)) ⌝ }
     ensures { λ r. ⌜ r ≤ at + 17_664 ⌝ }
 {
     let n = memory.n;

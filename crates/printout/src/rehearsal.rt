@@ -1,11 +1,10 @@
 // A rehearsal: the events of a script from fresh memory, and what each did.
 ghost use mathlib.Core.Path.{_≡_};
-ghost use mathlib.Core.Bool.{false, not, _||_};
+ghost use mathlib.Core.Bool.{false};
 ghost use Prim.Native.Nat.{_*_, _≤_};
 ghost use lib.ListN.{length, take};
-ghost use lib.Dec.{eqb};
 ghost use Rattle.io.specs.Counts.{Counts};
-ghost use Rattle.model.specs.Memory.{sizeInRange};
+ghost use Rattle.model.specs.Calls.{notOpening};
 ghost use Rattle.printout.specs.Text.{rehearsalText};
 ghost use Rattle.printout.specs.Printed.{printed, RoutesLoopFree};
 ghost use Rattle.printout.specs.Contracts.{Puts};
@@ -21,7 +20,7 @@ pub const ROOM: usize = 184320;
 
 // The lines of these events and of the labels after them.
 fn put_rehearsal(out: &mut [u8], n: u8, start: u64, kinds: &[u8], operands: &[u8]) -> usize
-    requires { ⌜ (not (sizeInRange n) || eqb start 0 ≡ false) × (length (now kinds) ≤ 4_096) × (length (now operands) ≡ 2 * length (now kinds)) ⌝ }
+    requires { ⌜ (notOpening n start ≡ false) × (length (now kinds) ≤ 4_096) × (length (now operands) ≡ 2 * length (now kinds)) ⌝ }
     requires { ⌜ 184_320 ≤ length (now out) ⌝ }
     ensures { λ r. ⌜ Puts (now (out .entry)) 0 (rehearsalText n start (now (kinds .entry)) (now (operands .entry))) r (now (out .exit)) ⌝ }
     ensures { λ r. ⌜ r ≤ 184_320 ⌝ }

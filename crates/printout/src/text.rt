@@ -1,7 +1,8 @@
 // Decimal fields in a lent array.
 ghost use Prim.Native.Nat.{_+_, _*_, _≤_};
+ghost use mathlib.Core.List.{flatMap};
 ghost use lib.ListN.{length};
-ghost use Rattle.printout.specs.Text.{concatMap, decimal, field};
+ghost use Rattle.printout.specs.Text.{decimal, field};
 ghost use Rattle.printout.specs.Contracts.{Puts};
 use codec::put_bytes;
 
@@ -30,7 +31,7 @@ pub fn put_field(out: &mut [u8], at: usize, value: u64) -> usize
 // A field for each number.
 pub fn put_fields(out: &mut [u8], at: usize, values: &[u64]) -> usize
     requires { ⌜ at + 21 * length (now values) ≤ length (now out) ⌝ }
-    ensures { λ r. ⌜ Puts (now (out .entry)) at (concatMap field (now (values .entry))) r (now (out .exit)) ⌝ }
+    ensures { λ r. ⌜ Puts (now (out .entry)) at (flatMap field (now (values .entry))) r (now (out .exit)) ⌝ }
     ensures { λ r. ⌜ r ≤ at + 21 * length (now (values .entry)) ⌝ }
 {
     let mut end = at;

@@ -1,14 +1,13 @@
 -- Lists of calls: what they leave is what the model's list of calls leaves.
 use Prim.Native.Nat.{ℕ}
 use mathlib.Core.Path.{_≡_, refl, ap, subst, _∙_}
-use mathlib.Core.Bool.{Bool, true, false, not, _||_}
+use mathlib.Core.Bool.{Bool, true, false}
 use mathlib.Core.List.{List, [], _∷_}
-use lib.Dec.{eqb}
 use native.Mathlib.Omega.{arith}
-use Rattle.model.specs.Memory.{sizeInRange, fresh}
-use Rattle.model.specs.Calls.{Call, Open, Effect, effect, step, run}
+use Rattle.model.specs.Memory.{fresh}
+use Rattle.model.specs.Calls.{Call, Open, Effect, notOpening, step, run}
 use Rattle.model.specs.Walks.{Reached}
-use Rattle.model.proofs.Refusals.{opening-accepted, open-1, open-accepted}
+use Rattle.model.proofs.Refusals.{open-1, open-accepted, fresh-reached}
 use Rattle.network.specs.declared.Memory.{Memory}
 use Rattle.network.specs.View.{view}
 use Rattle.steps.specs.declared.Done.{Done}
@@ -23,11 +22,11 @@ history-run (c ∷ calls) memory left (r, called, h) =
 
 -- An accepted Open gives fresh memory.
 opened-fresh : (memory : Memory) (n start : ℕ) (r : Done) → Called memory (step (Open n start) (view memory)) r → r .answer ≡ 0
-    → (not (sizeInRange n) || eqb start 0 ≡ false) × (view (r .memory) ≡ fresh n start)
+    → (notOpening n start ≡ false) × (view (r .memory) ≡ fresh n start)
 unfolding Called
-opened-fresh memory n start r called zero = go (not (sizeInRange n) || eqb start 0) refl
+opened-fresh memory n start r called zero = go (notOpening n start) refl
   where
-    go : (b : Bool) → not (sizeInRange n) || eqb start 0 ≡ b → (not (sizeInRange n) || eqb start 0 ≡ false) × (view (r .memory) ≡ fresh n start)
+    go : (b : Bool) → notOpening n start ≡ b → (notOpening n start ≡ false) × (view (r .memory) ≡ fresh n start)
     go true e =
         let one = ap (λ (d : Done). d .answer) (subst (λ z. Called memory z r) (open-1 n start (view memory) e) called) in
         absurd (omega (arith, one, zero))
@@ -38,11 +37,4 @@ pub history-reached : (memory : Memory) (n start : ℕ) (r : Done) → Called me
     → (calls : List Call) (left : Memory) → History calls (r .memory) left → Reached (view left)
 history-reached memory n start r called zero calls left h =
     let w = opened-fresh memory n start r called zero in
-    record {
-      n = n;
-      start = start;
-      opened = effect 0 0 (fresh n start);
-      opens = opening-accepted n start (w .0);
-      calls = calls;
-      left = history-run calls (r .memory) left h ∙ ap (run calls) (w .1);
-    }
+    fresh-reached n start (w .0) calls (view left) (history-run calls (r .memory) left h ∙ ap (run calls) (w .1))

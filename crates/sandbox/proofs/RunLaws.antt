@@ -1,20 +1,19 @@
 -- A run of events, as the code makes it.
 use Prim.Native.Nat.{ℕ, _+_}
 use mathlib.Core.Path.{_≡_, refl, sym, ap, subst, _∙_}
-use mathlib.Core.Bool.{true, false, not, _||_}
+use mathlib.Core.Bool.{true, false}
 use mathlib.Core.List.{List, _∷_, []}
 use lib.ListN.{length}
-use lib.Dec.{eqb}
 use Rattle.base.specs.Lists.{tabulate}
-use Rattle.model.specs.Memory.{Network, sizeInRange, memoryInRange}
+use Rattle.model.specs.Memory.{Network, memoryInRange}
 use Rattle.model.specs.Memory as model
-use Rattle.model.specs.Calls.{effect, run}
+use Rattle.model.specs.Calls.{effect, notOpening, run}
 use Rattle.model.specs.Walks.{Reached}
-use Rattle.model.specs.Events.{eventAt, eventsOf, callsIn, notEvents, running}
+use Rattle.model.specs.Events.{eventAt, callsIn, notEvents, afterFirst, running}
 use Rattle.model.proofs.Range.{Kept, kept-in-range}
-use Rattle.model.proofs.Refusals.{opening-accepted}
+use Rattle.model.proofs.Refusals.{opening-accepted, fresh-reached}
 use Rattle.model.proofs.Steps.{opened-kept}
-use Rattle.model.proofs.EventLaws.{run-more, running-10, running-1, running-accepted}
+use Rattle.model.proofs.EventLaws.{after-more, running-10, running-1, running-accepted}
 use Rattle.network.specs.declared.Memory.{Memory}
 use Rattle.network.specs.View.{view}
 use Rattle.steps.specs.declared.events.Happened.{Happened}
@@ -25,11 +24,11 @@ use Rattle.steps.proofs.HappenLaws.{happens-after, happens-in-range}
 -- After i events the memory is in range, and the model's.
 pub record Ran (n start : ℕ) (kinds operands : List ℕ) (i : ℕ) (next : Memory) : Type 0 where
   pub ranged : memoryInRange (view next) ≡ true
-  pub left : view next ≡ run (callsIn (tabulate i (eventAt kinds operands))) (model.fresh n start)
+  pub left : view next ≡ afterFirst n start kinds operands i
 
 module _ (n start : ℕ) (kinds operands : List ℕ) where
-  pub ran-none : (next : Memory) → not (sizeInRange n) || eqb start 0 ≡ false → view next ≡ model.fresh n start → Ran n start kinds operands 0 next
-  unfolding tabulate callsIn run
+  pub ran-none : (next : Memory) → notOpening n start ≡ false → view next ≡ model.fresh n start → Ran n start kinds operands 0 next
+  unfolding afterFirst tabulate callsIn run
   ran-none next h e =
       let kept : Kept ⊥ (model.fresh n start) = opened-kept n start (effect 0 0 (model.fresh n start)) (opening-accepted n start h) in
       record { ranged = ap memoryInRange e ∙ kept-in-range (model.fresh n start) kept; left = e }
@@ -40,7 +39,7 @@ module _ (n start : ℕ) (kinds operands : List ℕ) where
     ranged = happens-in-range next (eventAt kinds operands i) r h (k .ranged);
     left =
         happens-after next (eventAt kinds operands i) r h ∙ ap (run (callsIn (eventAt kinds operands i ∷ []))) (k .left)
-        ∙ sym (run-more kinds operands i (model.fresh n start));
+        ∙ sym (after-more n start kinds operands i);
   }
 
   -- The whole run, by its tests.
@@ -49,25 +48,19 @@ module _ (n start : ℕ) (kinds operands : List ℕ) where
     unfolding Called
     run-10 h = subst (λ z. Called memory z (done memory 10 0)) (sym (running-10 n start kinds operands h)) refl
 
-    pub run-1 : notEvents (length kinds) (length operands) ≡ false → not (sizeInRange n) || eqb start 0 ≡ true
+    pub run-1 : notEvents (length kinds) (length operands) ≡ false → notOpening n start ≡ true
         → Called memory (running n start kinds operands) (done memory 1 0)
     unfolding Called
     run-1 h k = subst (λ z. Called memory z (done memory 1 0)) (sym (running-1 n start kinds operands h k)) refl
 
-    pub run-accepted : (next : Memory) → notEvents (length kinds) (length operands) ≡ false → not (sizeInRange n) || eqb start 0 ≡ false
+    pub run-accepted : (next : Memory) → notEvents (length kinds) (length operands) ≡ false → notOpening n start ≡ false
         → Ran n start kinds operands (length kinds) next → Called memory (running n start kinds operands) (done next 0 0)
-    unfolding Called eventsOf
+    unfolding Called
     run-accepted next h k r =
         subst (λ z. Called memory z (done next 0 0)) (sym (running-accepted n start kinds operands h k))
         (ap (λ (net : Network). effect 0 0 net) (r .left), r .ranged)
 
   -- It is memory that a list of calls reaches.
-  pub run-reached : (next : Memory) → not (sizeInRange n) || eqb start 0 ≡ false → Ran n start kinds operands (length kinds) next → Reached (view next)
-  run-reached next h r = record {
-    n = n;
-    start = start;
-    opened = effect 0 0 (model.fresh n start);
-    opens = opening-accepted n start h;
-    calls = callsIn (tabulate (length kinds) (eventAt kinds operands));
-    left = r .left;
-  }
+  pub run-reached : (next : Memory) → notOpening n start ≡ false → Ran n start kinds operands (length kinds) next → Reached (view next)
+  unfolding afterFirst
+  run-reached next h r = fresh-reached n start h (callsIn (tabulate (length kinds) (eventAt kinds operands))) (view next) (r .left)

@@ -1,11 +1,8 @@
 // The public calls. Each takes any memory and any numbers, tests 1 and then the rest, and gives the memory after it.
 ghost use mathlib.Core.Path.{_≡_};
 ghost use mathlib.Core.Logic.{_≢_};
-ghost use mathlib.Core.Bool.{not, _||_};
 ghost use Prim.Native.Nat.{_<_};
-ghost use lib.Dec.{eqb};
-ghost use Rattle.model.specs.Memory.{sizeInRange};
-ghost use Rattle.model.specs.Calls.{Open, Up, Down, Solicit, GiveUp, Expire, Deliver, Lose, Duplicate, step, traced, trace};
+ghost use Rattle.model.specs.Calls.{Open, Up, Down, Solicit, GiveUp, Expire, Deliver, Lose, Duplicate, notOpening, step, traced, trace};
 ghost use Rattle.model.specs.Walks.{WalksEnd, Reached};
 ghost use Rattle.network.specs.View.{view};
 ghost use Rattle.steps.specs.Called.{Called};
@@ -22,7 +19,7 @@ use steps::tracing::Traced;
 
 // Whether Open is turned down: n is not 2 to 16, or start is 0.
 pub fn open_refused(n: usize, start: u64) -> bool
-    ensures { λ r. ⌜ r ≡ not (sizeInRange n) || eqb start 0 ⌝ }
+    ensures { λ r. ⌜ r ≡ notOpening n start ⌝ }
 {
     !size_in_range(n) | (start == 0)
 }

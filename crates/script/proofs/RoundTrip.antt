@@ -14,15 +14,16 @@ use Rattle.base.proofs.Lists.{all-below-at}
 use Rattle.base.proofs.Loops.{tabulate-length, tabulate-at}
 use Rattle.codec.specs.Bytes.{littleEndian, number, AllBytes}
 use Rattle.codec.proofs.ByteLaws.{over-first, all-bytes, little-length, number-little, little-number, bytes-take, bytes-drop}
+use Rattle.model.specs.Calls.{notOpening}
 use Rattle.model.specs.Events.{Event, noEvent, eventAt, eventsOf, notEvent, notEvents}
 use Rattle.model.proofs.Refusals.{opening-tells}
 use Rattle.model.proofs.EventLaws.{events-tell, event-determines}
-use Rattle.script.specs.Script.{Script, script, encoded, eventCount, decoded, Ended, refused, done, notSized, notOpening, allEvents, noRoom, reading, writing}
+use Rattle.script.specs.Script.{Script, script, encoded, eventCount, decoded, Ended, refused, done, notSized, allEvents, noRoom, reading, writing}
 use Rattle.script.specs.declared.Found.{Found}
 use Rattle.script.specs.declared.Written.{Written}
-use Rattle.script.specs.Contracts.{inArrays, Reads, Writes}
+use Rattle.script.specs.Contracts.{Sized, inArrays, Reads, Writes}
 use Rattle.script.specs.Determined.{events, Determined}
-use Rattle.script.proofs.ScriptLaws.{sized-tell, Sized, kinds-length, operands-length, Ends, refuses, reads, ends, reading-10, reading-done, reads-script}
+use Rattle.script.proofs.ScriptLaws.{sized-tell, kinds-length, operands-length, Ends, refuses, reads, ends, reading-10, reading-done, reads-script}
 use Rattle.script.proofs.ScriptLaws.{Listed, WritingEnds, refuses-writing, writes, writing-ends, writing-done, writes-answer, events-length}
 
 -- What is turned down is not done, and what is done is one thing.
@@ -50,7 +51,7 @@ room-enough events kinds operands h k = rw (le-ltb kinds events h, le-ltb operan
 module _ (bytes : List ℕ) (s : Script) (kinds operands : ℕ) (e : reading bytes kinds operands ≡ done s) where
   record Readable : Type 0 where
     is-sized : Sized bytes
-    opens : notOpening s ≡ false
+    opens : notOpening (s .n) (s .start) ≡ false
     all : allEvents (s .kinds) (s .operands) ≡ true
     is-decoded : decoded bytes ≡ s
 
@@ -63,13 +64,13 @@ module _ (bytes : List ℕ) (s : Script) (kinds operands : ℕ) (e : reading byt
           let same = same-value (decoded bytes) s (sym (reading-done bytes kinds operands z a k) ∙ e) in
           record {
             is-sized = z;
-            opens = ap notOpening (sym same) ∙ z .opens;
+            opens = ap (λ (x : Script). notOpening (x .n) (x .start)) (sym same) ∙ z .opens;
             all = ap (λ (x : Script). allEvents (x .kinds) (x .operands)) (sym same) ∙ a;
             is-decoded = same;
           }
 
 -- A script that was read opens a network.
-pub read-opens : (bytes : List ℕ) (s : Script) (kinds operands : ℕ) → reading bytes kinds operands ≡ done s → notOpening s ≡ false
+pub read-opens : (bytes : List ℕ) (s : Script) (kinds operands : ℕ) → reading bytes kinds operands ≡ done s → notOpening (s .n) (s .start) ≡ false
 read-opens bytes s kinds operands e = readable bytes s kinds operands e .opens
 
 module _ (s : Script) (bytes : List ℕ) (room : ℕ) (e : writing s room ≡ done bytes) where
@@ -138,7 +139,6 @@ module _ (s : Script) where
 -- What is written reads back.
 written-reads : (s : Script) (bytes : List ℕ) (room kinds operands : ℕ) → s .start < 256 ^ 8
     → writing s room ≡ done bytes → length (s .kinds) ≤ kinds → length (s .operands) ≤ operands → reading bytes kinds operands ≡ done s
-unfolding notOpening
 written-reads s bytes room kinds operands hs e hk ho =
     let w = writable s bytes room e in
     let events = length (s .kinds) in
@@ -152,7 +152,7 @@ written-reads s bytes room kinds operands hs e hk ho =
     let h9 : ltb (length (encoded s)) 11 ≡ false = le-ltb (length (encoded s)) 11 (omega (arith, long)) in
     let h10 : notSized (eventCount (encoded s)) (length (encoded s)) ≡ false = ap (λ (k : ℕ). notSized k (length (encoded s))) count ∙ ap (notSized events) long ∙ sized-right events (t .0) in
     let h12 : noRoom (eventCount (encoded s)) kinds operands ≡ false = ap (λ (k : ℕ). noRoom k kinds operands) count ∙ room-enough events kinds operands hk (omega (arith, t .1, ho)) in
-    let h1 : notOpening (decoded (encoded s)) ≡ false = ap notOpening same ∙ w .is-listed .opens in
+    let h1 : notOpening (decoded (encoded s) .n) (decoded (encoded s) .start) ≡ false = ap (λ (x : Script). notOpening (x .n) (x .start)) same ∙ w .is-listed .opens in
     let h11 : allEvents (decoded (encoded s) .kinds) (decoded (encoded s) .operands) ≡ true = ap (λ (x : Script). allEvents (x .kinds) (x .operands)) same ∙ w .is-listed .all in
     ap (λ (l : List ℕ). reading l kinds operands) (sym (w .is-encoded)) ∙ reading-done (encoded s) kinds operands (record { long = h9; counted = h10; opens = h1 }) h11 h12 ∙ ap done same
 

@@ -12,13 +12,14 @@ use borrow.Author.Tests.{ltb-false, eqb-true, not-false}
 use Rattle.base.proofs.Flags.{neither}
 use Rattle.codec.specs.Bytes.{littleEndian, number, over}
 use Rattle.codec.proofs.ByteLaws.{sets-append, sets-over}
+use Rattle.model.specs.Calls.{notOpening}
 use Rattle.model.specs.Events.{notEvents}
 use Rattle.model.proofs.EventLaws.{events-tell}
 use Rattle.script.specs.declared.Found.{Found}
 use Rattle.script.specs.declared.Written.{Written}
 use Rattle.script.specs.Script.{Script, encoded, eventCount, decoded, Ended, refused, done}
-use Rattle.script.specs.Script.{notSized, notOpening, allEvents, noRoom, reading, writing}
-use Rattle.script.specs.Contracts.{found, sizesIn, Reads, written, Writes}
+use Rattle.script.specs.Script.{notSized, allEvents, noRoom, reading, writing}
+use Rattle.script.specs.Contracts.{found, Sized, Sizes, turned-down, passes, Reads, written, Writes}
 
 -- What the tests 10 and 12 of reading tell where they pass.
 pub sized-tell : (events bytes : ℕ) → notSized events bytes ≡ false → (events ≤ 4_096) × (bytes ≡ 11 + 3 * events)
@@ -39,31 +40,7 @@ unfolding decoded number
 decoded-n [] h = absurd (omega arith)
 decoded-n (x ∷ bytes) h = omega arith
 
--- The tests 9, 10 and 1 of reading pass.
-pub record Sized (bytes : List ℕ) : Type 0 where
-  pub long : ltb (length bytes) 11 ≡ false
-  pub counted : notSized (eventCount bytes) (length bytes) ≡ false
-  pub opens : notOpening (decoded bytes) ≡ false
-
 module _ (bytes : List ℕ) where
-  -- The sizes, by the tests.
-  pub sizes-9 : ltb (length bytes) 11 ≡ true → sizesIn bytes ≡ found 0 0 9 0
-  unfolding sizesIn
-  sizes-9 h = rw h
-
-  pub sizes-10 : ltb (length bytes) 11 ≡ false → notSized (eventCount bytes) (length bytes) ≡ true → sizesIn bytes ≡ found 0 0 10 0
-  unfolding sizesIn
-  sizes-10 h k = rw (h, k)
-
-  pub sizes-1 : ltb (length bytes) 11 ≡ false → notSized (eventCount bytes) (length bytes) ≡ false → notOpening (decoded bytes) ≡ true
-      → sizesIn bytes ≡ found 0 0 1 0
-  unfolding sizesIn
-  sizes-1 h k l = rw (h, k, l)
-
-  pub sizes-done : Sized bytes → sizesIn bytes ≡ found (decoded bytes .start) (eventCount bytes) 0 (decoded bytes .n)
-  unfolding sizesIn
-  sizes-done s = rw (s .long, s .counted, s .opens)
-
   -- Reading, by the tests.
   module _ (kinds operands : ℕ) where
     pub reading-9 : ltb (length bytes) 11 ≡ true → reading bytes kinds operands ≡ refused 9
@@ -74,7 +51,7 @@ module _ (bytes : List ℕ) where
     unfolding reading
     reading-10 h k = rw (h, k)
 
-    pub reading-1 : ltb (length bytes) 11 ≡ false → notSized (eventCount bytes) (length bytes) ≡ false → notOpening (decoded bytes) ≡ true
+    pub reading-1 : ltb (length bytes) 11 ≡ false → notSized (eventCount bytes) (length bytes) ≡ false → notOpening (decoded bytes .n) (decoded bytes .start) ≡ true
         → reading bytes kinds operands ≡ refused 1
     unfolding reading
     reading-1 h k l = rw (h, k, l)
@@ -113,52 +90,33 @@ module _ (bytes : List ℕ) where
         let w = room-tell (eventCount bytes) kinds operands h in
         (omega (arith, kinds-length), omega (arith, operands-length))
 
-  -- What the code then knows, with E in hand: the part from place 11 to 11 + E is the kinds, and the part from there on the operands.
-  pub record Passed (events : ℕ) : Type 0 where
+  -- What the code knows where the sizes pass: the part from place 11 to 11 + E is the kinds, and the part from there on the operands.
+  pub record Passed (r : Found) : Type 0 where
     pub sized : Sized bytes
-    pub count : events ≡ eventCount bytes
-    pub few : events ≤ 4_096
-    pub long : length bytes ≡ 11 + 3 * events
-    pub kinds : take (11 + events - 11) (drop 11 bytes) ≡ decoded bytes .kinds
-    pub operands : take (length bytes - (11 + events)) (drop (11 + events) bytes) ≡ decoded bytes .operands
+    pub is-found : r ≡ found (decoded bytes .start) (eventCount bytes) 0 (decoded bytes .n)
+    pub count : r .events ≡ eventCount bytes
+    pub few : r .events ≤ 4_096
+    pub long : length bytes ≡ 11 + 3 * r .events
+    pub kinds : take (11 + r .events - 11) (drop 11 bytes) ≡ decoded bytes .kinds
+    pub operands : take (length bytes - (11 + r .events)) (drop (11 + r .events) bytes) ≡ decoded bytes .operands
 
-  passed : (events : ℕ) → events ≡ eventCount bytes → Sized bytes → Passed events
+  pub sizes-passed : (r : Found) → Sizes bytes r → r .answer ≡ 0 → Passed r
   unfolding decoded
-  passed events e s =
+  sizes-passed r (turned-down number p f g) z = absurd (omega (arith, p, z, ap (λ (x : Found). x .answer) f))
+  sizes-passed r (passes s f) z =
       let w = sized-tell (eventCount bytes) (length bytes) (s .counted) in
-      let k : 11 + events - 11 ≡ eventCount bytes = omega arith in
+      let e : r .events ≡ eventCount bytes = ap (λ (x : Found). x .events) f in
+      let k : 11 + r .events - 11 ≡ eventCount bytes = omega arith in
+      let whole = take-all (length bytes - (11 + eventCount bytes)) (drop (11 + eventCount bytes) bytes) (rw length-drop (omega arith)) in
       record {
         sized = s;
+        is-found = f;
         count = e;
         few = omega arith;
         long = omega arith;
         kinds = ap (λ n. take n (drop 11 bytes)) k;
-        operands = rw e (take-all (length bytes - (11 + eventCount bytes)) (drop (11 + eventCount bytes) bytes) (rw length-drop (omega arith)));
+        operands = ap (λ (n : ℕ). take (length bytes - (11 + n)) (drop (11 + n) bytes)) e ∙ whole;
       }
-
-  -- The tests 9, 10 and 1 turn the bytes down with a number, by the sizes and by reading, or they pass.
-  pub data Sizing : Type 0 where
-    turned-down : (number : ℕ) → 0 < number → sizesIn bytes ≡ found 0 0 number 0
-        → ((kinds operands : ℕ) → reading bytes kinds operands ≡ refused number) → Sizing
-    passes : Sized bytes → Sizing
-
-  pub sizing : Sizing
-  sizing = go (ltb (length bytes) 11) refl (notSized (eventCount bytes) (length bytes)) refl (notOpening (decoded bytes)) refl
-    where
-      go : (t : Bool) → ltb (length bytes) 11 ≡ t → (u : Bool) → notSized (eventCount bytes) (length bytes) ≡ u
-          → (v : Bool) → notOpening (decoded bytes) ≡ v → Sizing
-      go true h u k v l = turned-down 9 (omega arith) (sizes-9 h) (λ a b. reading-9 a b h)
-      go false h true k v l = turned-down 10 (omega arith) (sizes-10 h k) (λ a b. reading-10 a b h k)
-      go false h false k true l = turned-down 1 (omega arith) (sizes-1 h k l) (λ a b. reading-1 a b h k l)
-      go false h false k false l = passes (record { long = h; counted = k; opens = l })
-
-  -- Where the answer of the sizes is 0 they pass.
-  pub sizes-passed : (r : Found) → r ≡ sizesIn bytes → r .answer ≡ 0 → Passed (r .events)
-  sizes-passed r e zero = go sizing
-    where
-      go : Sizing → Passed (r .events)
-      go (turned-down number p f g) = absurd (omega (arith, ap (λ (z : Found). z .answer) (e ∙ f)))
-      go (passes s) = passed (r .events) (ap (λ (z : Found). z .events) (e ∙ sizes-done s)) s
 
   -- Reading turns the bytes down with a number, or reads them.
   module _ (kinds operands : ℕ) where
@@ -167,17 +125,17 @@ module _ (bytes : List ℕ) where
       reads : Sized bytes → allEvents (decoded bytes .kinds) (decoded bytes .operands) ≡ true → noRoom (eventCount bytes) kinds operands ≡ false → Ends
 
     pub ends : Ends
-    ends = go sizing
+    ends = go _ refl _ refl _ refl _ refl _ refl
       where
-        past : Sized bytes → (t : Bool) → allEvents (decoded bytes .kinds) (decoded bytes .operands) ≡ t
-            → (u : Bool) → noRoom (eventCount bytes) kinds operands ≡ u → Ends
-        past s false h u k = refuses 11 (omega arith) (reading-11 kinds operands s h)
-        past s true h true k = refuses 12 (omega arith) (reading-12 kinds operands s h k)
-        past s true h false k = reads s h k
-
-        go : Sizing → Ends
-        go (turned-down number p f g) = refuses number p (g kinds operands)
-        go (passes s) = past s _ refl _ refl
+        go : (t : Bool) → ltb (length bytes) 11 ≡ t → (u : Bool) → notSized (eventCount bytes) (length bytes) ≡ u
+            → (v : Bool) → notOpening (decoded bytes .n) (decoded bytes .start) ≡ v
+            → (w : Bool) → allEvents (decoded bytes .kinds) (decoded bytes .operands) ≡ w → (x : Bool) → noRoom (eventCount bytes) kinds operands ≡ x → Ends
+        go true e u f v g w h x k = refuses 9 (omega arith) (reading-9 kinds operands e)
+        go false e true f v g w h x k = refuses 10 (omega arith) (reading-10 kinds operands e f)
+        go false e false f true g w h x k = refuses 1 (omega arith) (reading-1 kinds operands e f g)
+        go false e false f false g false h x k = refuses 11 (omega arith) (reading-11 kinds operands (record { long = e; counted = f; opens = g }) h)
+        go false e false f false g true h true k = refuses 12 (omega arith) (reading-12 kinds operands (record { long = e; counted = f; opens = g }) h k)
+        go false e false f false g true h false k = reads (record { long = e; counted = f; opens = g }) h k
 
 -- The contract of reading, by how it ends.
 module _ (bytes kinds operands : List ℕ) (r : Found) where
@@ -189,22 +147,20 @@ module _ (bytes kinds operands : List ℕ) (r : Found) where
   unfolding Reads
   reads-refused number h e = rw h (e, refl, refl)
 
-  pub reads-sizes : r ≡ sizesIn bytes → r .answer ≢ 0 → Reads (reading bytes (length kinds) (length operands)) kinds operands r kinds operands
-  reads-sizes e h = go (sizing bytes)
-    where
-      go : Sizing bytes → Reads (reading bytes (length kinds) (length operands)) kinds operands r kinds operands
-      go (turned-down number p f g) = reads-refused number (g (length kinds) (length operands)) (e ∙ f)
-      go (passes s) = absurd (h (ap (λ (z : Found). z .answer) (e ∙ sizes-done bytes s)))
+  pub reads-sizes : Sizes bytes r → r .answer ≢ 0 → Reads (reading bytes (length kinds) (length operands)) kinds operands r kinds operands
+  reads-sizes (turned-down number p f g) z = reads-refused number (g (length kinds) (length operands)) f
+  reads-sizes (passes s f) z = absurd (z (ap (λ (x : Found). x .answer) f))
 
-  pub reads-done : (kinds′ operands′ : List ℕ) → Sized bytes → allEvents (decoded bytes .kinds) (decoded bytes .operands) ≡ true
-      → noRoom (eventCount bytes) (length kinds) (length operands) ≡ false → r ≡ sizesIn bytes
+  pub reads-done : (kinds′ operands′ : List ℕ) → Passed bytes r → allEvents (decoded bytes .kinds) (decoded bytes .operands) ≡ true
+      → noRoom (eventCount bytes) (length kinds) (length operands) ≡ false
       → kinds′ ≡ sets kinds 0 (decoded bytes .kinds) → operands′ ≡ sets operands 0 (decoded bytes .operands)
       → Reads (reading bytes (length kinds) (length operands)) kinds operands r kinds′ operands′
   unfolding Reads
-  reads-done kinds′ operands′ s h k e p q =
+  reads-done kinds′ operands′ w h k p q =
+      let s = w .sized in
       let fits = decoded-fits bytes s (length kinds) (length operands) k in
       rw (reading-done bytes (length kinds) (length operands) s h k) (
-        e ∙ sizes-done bytes s ∙ rw (kinds-length bytes s),
+        w .is-found ∙ rw (kinds-length bytes s),
         p ∙ sets-over kinds (decoded bytes .kinds) (fits .0),
         q ∙ sets-over operands (decoded bytes .operands) (fits .1),
       )
@@ -255,21 +211,21 @@ module _ (s : Script) where
     unfolding writing
     writing-10 h = rw h
 
-    pub writing-1 : notEvents (length (s .kinds)) (length (s .operands)) ≡ false → notOpening s ≡ true → writing s room ≡ refused 1
+    pub writing-1 : notEvents (length (s .kinds)) (length (s .operands)) ≡ false → notOpening (s .n) (s .start) ≡ true → writing s room ≡ refused 1
     unfolding writing
     writing-1 h k = rw (h, k)
 
-    pub writing-11 : notEvents (length (s .kinds)) (length (s .operands)) ≡ false → notOpening s ≡ false → allEvents (s .kinds) (s .operands) ≡ false
+    pub writing-11 : notEvents (length (s .kinds)) (length (s .operands)) ≡ false → notOpening (s .n) (s .start) ≡ false → allEvents (s .kinds) (s .operands) ≡ false
         → writing s room ≡ refused 11
     unfolding writing
     writing-11 h k l = rw (h, k, l)
 
-    pub writing-12 : notEvents (length (s .kinds)) (length (s .operands)) ≡ false → notOpening s ≡ false → allEvents (s .kinds) (s .operands) ≡ true
+    pub writing-12 : notEvents (length (s .kinds)) (length (s .operands)) ≡ false → notOpening (s .n) (s .start) ≡ false → allEvents (s .kinds) (s .operands) ≡ true
         → ltb room (11 + 3 * length (s .kinds)) ≡ true → writing s room ≡ refused 12
     unfolding writing
     writing-12 h k l m = rw (h, k, l, m)
 
-    pub writing-done : notEvents (length (s .kinds)) (length (s .operands)) ≡ false → notOpening s ≡ false → allEvents (s .kinds) (s .operands) ≡ true
+    pub writing-done : notEvents (length (s .kinds)) (length (s .operands)) ≡ false → notOpening (s .n) (s .start) ≡ false → allEvents (s .kinds) (s .operands) ≡ true
         → ltb room (11 + 3 * length (s .kinds)) ≡ false → writing s room ≡ done (encoded s)
     unfolding writing
     writing-done h k l m = rw (h, k, l, m)
@@ -277,7 +233,7 @@ module _ (s : Script) where
   -- Writing turns the script down with a number, or its four tests pass.
   pub record Listed (room : ℕ) : Type 0 where
     pub counted : notEvents (length (s .kinds)) (length (s .operands)) ≡ false
-    pub opens : notOpening s ≡ false
+    pub opens : notOpening (s .n) (s .start) ≡ false
     pub all : allEvents (s .kinds) (s .operands) ≡ true
     pub fits : ltb room (11 + 3 * length (s .kinds)) ≡ false
 
@@ -288,7 +244,7 @@ module _ (s : Script) where
   pub writing-ends : (room : ℕ) → WritingEnds room
   writing-ends room = go _ refl _ refl _ refl _ refl
     where
-      go : (t : Bool) → notEvents (length (s .kinds)) (length (s .operands)) ≡ t → (u : Bool) → notOpening s ≡ u
+      go : (t : Bool) → notEvents (length (s .kinds)) (length (s .operands)) ≡ t → (u : Bool) → notOpening (s .n) (s .start) ≡ u
           → (v : Bool) → allEvents (s .kinds) (s .operands) ≡ v → (w : Bool) → ltb room (11 + 3 * length (s .kinds)) ≡ w → WritingEnds room
       go true e u f v g w k = refuses-writing 10 (omega arith) (writing-10 room e)
       go false e true f v g w k = refuses-writing 1 (omega arith) (writing-1 room e f)
@@ -318,7 +274,7 @@ module _ (s : Script) where
     unfolding Writes
     writes-refused number h e = rw h (e, refl)
 
-    pub writes-done : (out′ : List ℕ) → notEvents (length (s .kinds)) (length (s .operands)) ≡ false → notOpening s ≡ false
+    pub writes-done : (out′ : List ℕ) → notEvents (length (s .kinds)) (length (s .operands)) ≡ false → notOpening (s .n) (s .start) ≡ false
         → allEvents (s .kinds) (s .operands) ≡ true → ltb (length out) (11 + 3 * length (s .kinds)) ≡ false
         → r ≡ written (11 + 3 * length (s .kinds)) 0 → out′ ≡ sets out 0 (encoded s) → Writes (writing s (length out)) out r out′
     unfolding Writes

@@ -1,27 +1,29 @@
 -- What the contracts of reading and writing say.
-use Prim.Native.Nat.{ℕ, _*_}
+use Prim.Native.Nat.{ℕ, _*_, _<_}
 use mathlib.Core.Path.{_≡_}
+use mathlib.Core.Bool.{false}
 use mathlib.Core.List.{List}
 use lib.ListN.{length, take}
 use lib.Dec.{ltb}
-use Rattle.base.specs.Choice.{if_then_else_}
 use Rattle.codec.specs.Bytes.{over}
+use Rattle.model.specs.Calls.{notOpening}
 use Rattle.script.specs.declared.Found.{Found}
 use Rattle.script.specs.declared.Written.{Written}
-use Rattle.script.specs.Script.{Script, script, eventCount, decoded, Ended, refused, done, notSized, notOpening}
+use Rattle.script.specs.Script.{Script, script, eventCount, decoded, Ended, refused, done, notSized, reading}
 
 abbrev pub found : (start events answer n : ℕ) → Found
 found start events answer n = record { start = start; events = events; answer = answer; n = n }
 
--- What the tests 9, 10 and 1 find.
-unfoldable pub sizesIn : List ℕ → Found
-sizesIn bytes =
-    let events = eventCount bytes in
-    let s = decoded bytes in
-    if ltb (length bytes) 11 then found 0 0 9 0
-    else if notSized events (length bytes) then found 0 0 10 0
-    else if notOpening s then found 0 0 1 0
-    else found (s .start) events 0 (s .n)
+-- The tests 9, 10 and 1 of reading pass.
+pub record Sized (bytes : List ℕ) : Type 0 where
+  pub long : ltb (length bytes) 11 ≡ false
+  pub counted : notSized (eventCount bytes) (length bytes) ≡ false
+  pub opens : notOpening (decoded bytes .n) (decoded bytes .start) ≡ false
+
+-- They turn the bytes down with the number that reading gives, or pass, with start, E and n found.
+pub data Sizes (bytes : List ℕ) (r : Found) : Type 0 where
+  turned-down : (number : ℕ) → 0 < number → r ≡ found 0 0 number 0 → ((kinds operands : ℕ) → reading bytes kinds operands ≡ refused number) → Sizes bytes r
+  passes : Sized bytes → r ≡ found (decoded bytes .start) (eventCount bytes) 0 (decoded bytes .n) → Sizes bytes r
 
 -- Reading gave r and left the two lent arrays so. Turned down, the arrays are as they were. Read, exactly E kinds and 2E operands are
 -- written, and the places past them kept.

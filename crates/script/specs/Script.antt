@@ -7,7 +7,7 @@ use lib.Dec.{ltb, eqb}
 use Rattle.base.specs.Choice.{if_then_else_}
 use Rattle.base.specs.Lists.{allBelow}
 use Rattle.codec.specs.Bytes.{littleEndian, number}
-use Rattle.model.specs.Memory.{sizeInRange}
+use Rattle.model.specs.Calls.{notOpening}
 use Rattle.model.specs.Events.{notEvent, notEvents}
 
 -- The number of stations, the start and the events of a rehearsal: a kind for each event, and two operands.
@@ -44,10 +44,6 @@ pub data Ended (A : Type 0) : Type 0 where
 unfoldable pub notSized : (events bytes : ℕ) → Bool
 notSized events bytes = ltb 4_096 events || not (eqb bytes (11 + 3 * events))
 
--- 1: "n not 2..16, start 0".
-unfoldable pub notOpening : Script → Bool
-notOpening s = not (sizeInRange (s .n)) || eqb (s .start) 0
-
 -- 11: "kind not 1..9, or an unused operand not 0", of any event.
 unfoldable pub allEvents : (kinds operands : List ℕ) → Bool
 allEvents kinds operands = allBelow (length kinds) (λ i. not (notEvent (getD kinds i 0) (getD operands (2 * i + 1) 0)))
@@ -63,7 +59,7 @@ reading bytes kinds operands =
     let s = decoded bytes in
     if ltb (length bytes) 11 then refused 9
     else if notSized events (length bytes) then refused 10
-    else if notOpening s then refused 1
+    else if notOpening (s .n) (s .start) then refused 1
     else if not (allEvents (s .kinds) (s .operands)) then refused 11
     else if noRoom events kinds operands then refused 12
     else done s
@@ -72,7 +68,7 @@ reading bytes kinds operands =
 unfoldable pub writing : Script → (bytes : ℕ) → Ended (List ℕ)
 writing s bytes =
     if notEvents (length (s .kinds)) (length (s .operands)) then refused 10
-    else if notOpening s then refused 1
+    else if notOpening (s .n) (s .start) then refused 1
     else if not (allEvents (s .kinds) (s .operands)) then refused 11
     else if ltb bytes (11 + 3 * length (s .kinds)) then refused 12
     else done (encoded s)

@@ -4,7 +4,7 @@ ghost use Prim.Native.Nat.{_+_, _*_, _≤_};
 ghost use lib.ListN.{length, take};
 ghost use lib.Seq.{sets};
 ghost use Rattle.script.specs.Script.{script, encoded, done, notSized, allEvents, noRoom, reading, writing};
-ghost use Rattle.script.specs.Contracts.{found, written, sizesIn, inArrays, Reads, Writes};
+ghost use Rattle.script.specs.Contracts.{found, written, inArrays, Sizes, Reads, Writes};
 use codec::number_at;
 use codec::put_bytes;
 use codec::put_number;
@@ -83,7 +83,7 @@ fn no_room(events: usize, kinds: usize, operands: usize) -> bool
 
 // The sizes at a script's start, by the tests 9, 10 and 1.
 fn sizes(script: &[u8]) -> Found
-    ensures { λ r. ⌜ r ≡ sizesIn (now (script .entry)) ⌝ }
+    ensures { λ r. ⌜ Sizes (now (script .entry)) r ⌝ }
 {
     if script.len() < 11 {
         return not_read(9);

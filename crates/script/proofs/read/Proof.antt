@@ -31,7 +31,7 @@ back c kinds operands r =
     with-written-back (args .script .now) (args .kinds .now) (args .operands .now) kinds operands r (c .shared-slice-known .given)
 
 -- Past the tests 9, 10 and 1.
-past : (c : tie.Else1) → Passed (first (c .before) .args .script .now) (c .before .sizes .result .events)
+past : (c : tie.Else1) → Passed (first (c .before) .args .script .now) (c .before .sizes .result)
 past c = sizes-passed _ (c .before .sizes .result) (c .before .sizes .ensures) (c .if1 .left)
 
 -- The tests 11 and 12.
@@ -135,9 +135,8 @@ returns-4 c =
     let put = c .before .before .before .before .before .before in
     let after = put .before .before in
     let at = sized (after .before .before .before) in
-    back (known (at .before)) _ _ _ (reads-done _ (first (at .before) .args .kinds .now) (first (at .before) .args .operands .now) _ _ _ (past at .sized) (right (after .before .before))
+    back (known (at .before)) _ _ _ (reads-done _ (first (at .before) .args .kinds .now) (first (at .before) .args .operands .now) _ _ _ (past at) (right (after .before .before))
     (was-false _ _ (roomy (after .before)) (after .if3 .left))
-    (at .before .sizes .ensures)
     (put .put-bytes .ensures ∙ rw (past at .kinds))
     (c .before .before .put-bytes2 .ensures ∙ rw (past at .operands)))
 

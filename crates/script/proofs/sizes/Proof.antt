@@ -6,8 +6,10 @@ use lib.Dec.{ltb}
 use native.Mathlib.Omega.{arith}
 use borrow.Author.Needs.{needs}
 use borrow.Author.Tests.{lt-ltb, le-ltb}
-use Rattle.script.specs.Script.{notSized, eventCount, decoded, notOpening}
-use Rattle.script.proofs.ScriptLaws.{sizes-9, sizes-10, sizes-1, sizes-done, decoded-n}
+use Rattle.model.specs.Calls.{notOpening}
+use Rattle.script.specs.Script.{notSized, eventCount, decoded}
+use Rattle.script.specs.Contracts.{Sized, turned-down, passes}
+use Rattle.script.proofs.ScriptLaws.{reading-9, reading-10, reading-1, decoded-n}
 use Rattle.script.proofs.sizes.Statement.{statement}
 use Rattle.script.proofs.sizes.Tie as tie
 
@@ -21,8 +23,9 @@ unfolding eventCount
 counted c = c .not-sized .ensures ∙ rw (c .before .number-at .ensures .0)
 
 opens : (c : tie.After-open-refused)
-    → c .open-refused .result ≡ notOpening (decoded (c .before .before .before .before .before .before .before .before .args .script .now))
-unfolding notOpening decoded
+    → let s = decoded (c .before .before .before .before .before .before .before .before .args .script .now) in
+    c .open-refused .result ≡ notOpening (s .n) (s .start)
+unfolding decoded
 opens c =
     let n = decoded-n (c .before .before .before .before .before .before .before .before .args .script .now) (omega arith) in
     c .open-refused .ensures ∙ rw (n, c .before .number-at2 .ensures .0)
@@ -31,7 +34,7 @@ not-read-requires : tie.Need-not-read-requires
 not-read-requires c κs = search needs
 
 returns : tie.Need-returns
-returns c = c .not-read .ensures ∙ sym (sizes-9 _ (lt-ltb _ _ (c .before .if1 .taken)))
+returns c = turned-down 9 (omega arith) (c .not-read .ensures) (λ k o. reading-9 _ k o (lt-ltb _ _ (c .before .if1 .taken)))
 
 number-at-requires : tie.Need-number-at-requires
 number-at-requires c κs = search needs
@@ -45,7 +48,7 @@ not-read-requires-2 c κs = search needs
 returns-2 : tie.Need-returns-2
 returns-2 c =
     let at = c .before .before in
-    c .not-read2 .ensures ∙ sym (sizes-10 _ (long (at .before .before)) (sym (counted at) ∙ c .before .if2 .taken))
+    turned-down 10 (omega arith) (c .not-read2 .ensures) (λ k o. reading-10 _ k o (long (at .before .before)) (sym (counted at) ∙ c .before .if2 .taken))
 
 shared-slice-read-n : tie.Need-shared-slice-read-n
 shared-slice-read-n c = search needs
@@ -65,8 +68,8 @@ not-read-requires-3 c κs = search needs
 returns-3 : tie.Need-returns-3
 returns-3 c =
     let at = c .before .before .before .before .before in
-    c .not-read3 .ensures
-    ∙ sym (sizes-1 _ (long (at .before .before .before)) (sym (counted (at .before)) ∙ at .if2 .left) (sym (opens (c .before .before)) ∙ c .before .if3 .taken))
+    turned-down 1 (omega arith) (c .not-read3 .ensures) (λ k o.
+    reading-1 _ k o (long (at .before .before .before)) (sym (counted (at .before)) ∙ at .if2 .left) (sym (opens (c .before .before)) ∙ c .before .if3 .taken))
 
 returns-4 : tie.Need-returns-4
 unfolding decoded eventCount
@@ -74,12 +77,12 @@ returns-4 c =
     let at = c .before .before .before .before in
     let script = at .before .before .before .before .before .args .script .now in
     let n = decoded-n script (omega arith) in
-    let done = sizes-done script (record {
+    let sized : Sized script = record {
       long = long (at .before .before .before);
       counted = sym (counted (at .before)) ∙ at .if2 .left;
       opens = sym (opens (c .before)) ∙ c .if3 .left;
-    }) in
-    rw (c .before .before .number-at2 .ensures .0, at .before .before .number-at .ensures .0, done, n)
+    } in
+    passes sized (rw (c .before .before .number-at2 .ensures .0, at .before .before .number-at .ensures .0, n))
 
 pub sizes-spec : {M : Type 1} → statement M
 sizes-spec =

@@ -8,10 +8,11 @@ use native.Mathlib.Omega.{arith}
 use borrow.Author.Needs.{needs}
 use borrow.Author.Tests.{lt-ltb, le-ltb}
 use Rattle.base.proofs.Flags.{was-true, was-false, not-was-true, not-was-false}
+use Rattle.model.specs.Calls.{notOpening}
 use Rattle.model.specs.Events.{notEvents}
 use Rattle.model.proofs.EventLaws.{events-tell}
 use Rattle.script.specs.declared.Written.{Written}
-use Rattle.script.specs.Script.{Script, script, notOpening, allEvents}
+use Rattle.script.specs.Script.{Script, script, allEvents}
 use Rattle.script.proofs.ScriptLaws.{writing-10, writing-1, writing-11, writing-12, writes-refused, writes-done}
 use Rattle.script.proofs.RoundTrip.{HasWritten, ReadBack, with-read-back}
 use Rattle.script.proofs.write.Statement.{statement}
@@ -32,8 +33,7 @@ back c out r = with-read-back (its c) (c .args .out .now) out r (search needs)
 counted : (c : tie.Else1) → let args = first (c .before) .args in notEvents (length (args .kinds .now)) (length (args .operands .now)) ≡ false
 counted c = was-false _ _ (c .before .not-events .ensures) (c .if1 .left)
 
-opens : (c : tie.Else2) → notOpening (its (first (c .before .before .before))) ≡ false
-unfolding notOpening
+opens : (c : tie.Else2) → let s = its (first (c .before .before .before)) in notOpening (s .n) (s .start) ≡ false
 opens c = was-false _ _ (c .before .open-refused .ensures) (c .if2 .left)
 
 right : (c : tie.Else3) → let args = first (c .before .before .before .before .before) .args in allEvents (args .kinds .now) (args .operands .now) ≡ true
@@ -59,7 +59,6 @@ not-written-requires-2 : tie.Need-not-written-requires-2
 not-written-requires-2 c κs = search needs
 
 returns-2 : tie.Need-returns-2
-unfolding notOpening
 returns-2 c =
     let past = c .before .before .before in
     let at = first (past .before) in

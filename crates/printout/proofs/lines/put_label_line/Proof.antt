@@ -9,7 +9,7 @@ use borrow.Author.Needs.{needs}
 use mir.Syntax.{w8}
 use mir.Val.{Fits}
 use Rattle.printout.specs.Text.{field}
-use Rattle.printout.proofs.TextLaws.{fields-within, concat-prefix, puts-one, puts-append, puts-length}
+use Rattle.printout.proofs.TextLaws.{fields-within, flat-prefix, puts-one, puts-append, puts-length}
 use Rattle.printout.proofs.LineLaws.{numbers, label-text}
 use Rattle.printout.proofs.lines.put_label_line.Statement.{statement}
 use Rattle.printout.proofs.lines.put_label_line.Tie as tie
@@ -90,7 +90,7 @@ returns c =
     let most = fields-within (3 ∷ 3 ∷ 20 ∷ 10 ∷ 10 ∷ 3 ∷ 3 ∷ 3 ∷ 3 ∷ []) all (omega (arith, byte (c .before .before .before .before .before .before))) in
     let first = puts-append (puts-one (args .out .now) (args .at) 76) (c .before .before .put-fields .ensures .0) in (
       rw (label-text (args .i) (args .t) (args .label) (args .row) (search needs) (omega arith)) (puts-append first (puts-one _ _ 10)),
-      omega (arith, most, concat-prefix field all (5 + args .row .count)),
+      omega (arith, most, flat-prefix field all (5 + args .row .count)),
     )
 
 same-length : tie.Need-same-length

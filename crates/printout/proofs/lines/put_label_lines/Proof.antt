@@ -1,12 +1,13 @@
 -- `lines::put_label_lines` meets its contract: the lines of the stations below i are put, of at most 16 · 69 bytes each.
 use Prim.Native.Nat.{_+_, _-_, _*_, _≤_}
+use mathlib.Core.List.{flatMap}
 use mathlib.Core.Path.{_≡_}
 use native.Mathlib.Omega.{arith}
 use borrow.Author.Needs.{needs}
 use Rattle.model.specs.Printout.{labelLines}
 use Rattle.network.specs.View.{view}
 use Rattle.network.proofs.Ranged.{Ranged, sized, in-range-ranged}
-use Rattle.printout.specs.Text.{concatMap, labelText}
+use Rattle.printout.specs.Text.{labelText}
 use Rattle.printout.specs.Contracts.{Puts}
 use Rattle.printout.proofs.TextLaws.{puts-none, puts-append, puts-length}
 use Rattle.printout.proofs.LineLaws.{lines-more}
@@ -15,7 +16,7 @@ use Rattle.printout.proofs.lines.put_label_lines.Tie as tie
 
 abbrev Inv-loop : tie.InvT-loop
 Inv-loop out₀ at memory n end₀ i₀ out end i =
-    (i ≤ n) × Puts out₀ at (concatMap labelText (labelLines (view memory) i)) end out × (end ≤ at + 1_104 * i)
+    (i ≤ n) × Puts out₀ at (flatMap labelText (labelLines (view memory) i)) end out × (end ≤ at + 1_104 * i)
 
 abbrev μ-loop : tie.MeasureT-loop
 μ-loop out₀ at memory n end₀ i₀ out end i = n - i
@@ -28,7 +29,7 @@ ranged c =
     (c .pre .0)
 
 loop-holds : tie.Need-loop-holds Inv-loop μ-loop
-unfolding labelLines concatMap
+unfolding labelLines flatMap
 loop-holds c = (omega arith, puts-none _ _, omega arith)
 
 put-station-lines-requires : tie.Need-put-station-lines-requires Inv-loop μ-loop

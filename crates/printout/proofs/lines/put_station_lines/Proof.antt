@@ -1,5 +1,6 @@
 -- `lines::put_station_lines` meets its contract: the lines for the destinations below t are put.
 use Prim.Native.Nat.{_+_, _-_, _*_, _≤_, _<_}
+use mathlib.Core.List.{flatMap}
 use mathlib.Core.Path.{_≡_, sym, _∙_}
 use native.Mathlib.Omega.{arith}
 use borrow.Author.Needs.{needs}
@@ -8,7 +9,6 @@ use Rattle.model.specs.Memory.{place}
 use Rattle.model.specs.Printout.{isListed, stationLines}
 use Rattle.network.specs.View.{labelOf, view}
 use Rattle.network.proofs.Ranged.{Ranged, sized, in-range-ranged}
-use Rattle.printout.specs.Text.{concatMap}
 use Rattle.printout.specs.Contracts.{Puts}
 use Rattle.printout.proofs.TextLaws.{puts-none, puts-append, puts-length}
 use Rattle.printout.proofs.LineLaws.{listed-at, line-at, textBelow, text-yes, text-no}
@@ -29,7 +29,7 @@ ranged c =
     (c .pre .0 .0)
 
 loop-holds : tie.Need-loop-holds Inv-loop μ-loop
-unfolding textBelow below concatMap
+unfolding textBelow below flatMap
 loop-holds c = (omega arith, puts-none _ _, omega arith)
 
 place-requires : tie.Need-place-requires Inv-loop μ-loop

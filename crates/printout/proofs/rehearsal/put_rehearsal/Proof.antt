@@ -1,5 +1,6 @@
 -- `rehearsal::put_rehearsal` meets its contract: the lines of the first i events are put, and the memory is the one after them.
 use Prim.Native.Nat.{_-_, _*_, _≤_}
+use mathlib.Core.List.{flatMap}
 use mathlib.Core.Path.{_≡_, sym, subst}
 use lib.ListN.{length}
 use native.Mathlib.Omega.{arith}
@@ -9,7 +10,6 @@ use Rattle.model.specs.Events.{eventAt}
 use Rattle.model.proofs.Refusals.{opening-tells}
 use Rattle.network.specs.View.{view}
 use Rattle.sandbox.proofs.RunLaws.{Ran, ran-none, ran-more}
-use Rattle.printout.specs.Text.{concatMap}
 use Rattle.printout.specs.Contracts.{Puts}
 use Rattle.printout.proofs.TextLaws.{puts-none, puts-append, puts-length}
 use Rattle.printout.proofs.RehearsalLaws.{textFirst, text-more, text-whole}
@@ -35,7 +35,7 @@ fresh-requires : tie.Need-fresh-requires Inv-loop μ-loop
 fresh-requires c κs = opening-tells (c .before .before .before .args .n) (c .before .before .before .args .start) (c .before .before .before .pre .0 .0) .1
 
 loop-holds : tie.Need-loop-holds Inv-loop μ-loop
-unfolding textFirst tabulate concatMap
+unfolding textFirst tabulate flatMap
 loop-holds c = (omega arith, ran-none _ _ _ _ _ (c .before .before .before .before .pre .0 .0) (c .fresh .ensures), puts-none _ _, omega arith)
 
 shared-slice-read-kind : tie.Need-shared-slice-read-kind Inv-loop μ-loop

@@ -1,24 +1,25 @@
 -- `text::put_fields` meets its contract: the fields of the first i numbers are put.
 use Prim.Native.Nat.{_+_, _-_, _*_, _≤_}
+use mathlib.Core.List.{flatMap}
 use lib.ListN.{length, take}
 use lib.Seq.{take-all}
 use native.Mathlib.Omega.{arith}
 use borrow.Author.Needs.{needs}
-use Rattle.printout.specs.Text.{concatMap, field}
+use Rattle.printout.specs.Text.{field}
 use Rattle.printout.specs.Contracts.{Puts}
-use Rattle.printout.proofs.TextLaws.{concat-take, puts-none, puts-append, puts-length}
+use Rattle.printout.proofs.TextLaws.{flat-take, puts-none, puts-append, puts-length}
 use Rattle.printout.proofs.text.put_fields.Statement.{statement}
 use Rattle.printout.proofs.text.put_fields.Tie as tie
 
 abbrev Inv-loop : tie.InvT-loop
 Inv-loop out₀ at values end₀ i₀ out end i =
-    (i ≤ length values) × Puts out₀ at (concatMap field (take i values)) end out × (end ≤ at + 21 * i)
+    (i ≤ length values) × Puts out₀ at (flatMap field (take i values)) end out × (end ≤ at + 21 * i)
 
 abbrev μ-loop : tie.MeasureT-loop
 μ-loop out₀ at values end₀ i₀ out end i = length values - i
 
 loop-holds : tie.Need-loop-holds Inv-loop μ-loop
-unfolding concatMap
+unfolding flatMap
 loop-holds c = (omega arith, puts-none _ _, omega arith)
 
 mul-put-field : tie.Need-mul-put-field Inv-loop μ-loop
@@ -40,7 +41,7 @@ loop-again : tie.Need-loop-again Inv-loop μ-loop
 loop-again c =
     let values = c .before .before .before .before .before .before .before .before .before .args .values .now in
     let loop = c .before .before .before .before .before .before .loop in
-    (omega arith, rw (concat-take field values (loop .i) 0 (omega arith)) (puts-append (loop .inv .1) (c .before .before .put-field .ensures .0)), omega arith)
+    (omega arith, rw (flat-take field values (loop .i) 0 (omega arith)) (puts-append (loop .inv .1) (c .before .before .put-field .ensures .0)), omega arith)
 
 same-length : tie.Need-same-length Inv-loop μ-loop
 same-length c = puts-length (c .before .loop .inv .1)

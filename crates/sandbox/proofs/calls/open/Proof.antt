@@ -1,13 +1,11 @@
 -- `calls::open` meets its contract: refused with 1, or fresh memory.
 use Prim.Native.Nat.{_≤_}
 use mathlib.Core.Path.{_≡_, sym, ap, _∙_}
-use mathlib.Core.Bool.{false, not, _||_}
-use lib.Dec.{eqb}
+use mathlib.Core.Bool.{false}
 use native.Mathlib.Omega.{arith}
 use borrow.Author.Needs.{needs}
 use Rattle.model.specs.Memory as model
-use Rattle.model.specs.Memory.{sizeInRange}
-use Rattle.model.specs.Calls.{effect}
+use Rattle.model.specs.Calls.{effect, notOpening}
 use Rattle.model.proofs.Range.{Sized}
 use Rattle.model.proofs.Refusals.{open-1, open-accepted, opening-tells}
 use Rattle.network.specs.View.{view}
@@ -20,7 +18,7 @@ sizes : (c : tie.Start) → Sized (view (c .args .memory))
 sizes c = sized (c .args .memory) _ _ (c .good .0 .1 .1 .1 .1 .1 .0 .1 .0 .1) (c .good .0 .1 .1 .1 .1 .1 .1 .0 .1 .0 .1) (search needs)
 
 -- Past the test n and start are in range.
-passed : (c : tie.Else1) → not (sizeInRange (c .before .before .args .n)) || eqb (c .before .before .args .start) 0 ≡ false
+passed : (c : tie.Else1) → notOpening (c .before .before .args .n) (c .before .before .args .start) ≡ false
 passed c = sym (c .before .open-refused .ensures) ∙ c .if1 .left
 
 small : (c : tie.Else1) → c .before .before .args .n ≤ 16

@@ -1,12 +1,11 @@
 -- `events::run` meets its contract: refused with 10 or 1, or the events one after the other; and the claim of demand 3.
 use Prim.Native.Nat.{_-_, _*_, _≤_}
 use mathlib.Core.Path.{_≡_, refl, sym, subst, _∙_}
-use mathlib.Core.Bool.{false, not, _||_}
+use mathlib.Core.Bool.{false}
 use lib.ListN.{length}
-use lib.Dec.{eqb}
 use native.Mathlib.Omega.{arith}
 use borrow.Author.Needs.{needs}
-use Rattle.model.specs.Memory.{sizeInRange}
+use Rattle.model.specs.Calls.{notOpening}
 use Rattle.model.specs.Events.{eventAt, notEvents}
 use Rattle.model.proofs.Refusals.{opening-tells}
 use Rattle.model.proofs.EventLaws.{events-tell}
@@ -28,7 +27,7 @@ first c = c .before .before .before .before
 listed : (c : tie.Else1 Inv-loop μ-loop) → notEvents (length (first c .args .kinds .now)) (length (first c .args .operands .now)) ≡ false
 listed c = sym (c .before .not-events .ensures) ∙ c .if1 .left
 
-passed : (c : tie.Else2 Inv-loop μ-loop) → not (sizeInRange (first (c .before .before) .args .n)) || eqb (first (c .before .before) .args .start) 0 ≡ false
+passed : (c : tie.Else2 Inv-loop μ-loop) → notOpening (first (c .before .before) .args .n) (first (c .before .before) .args .start) ≡ false
 passed c = sym (c .before .open-refused .ensures) ∙ c .if2 .left
 
 small : (c : tie.Else2 Inv-loop μ-loop) → first (c .before .before) .args .n ≤ 16
