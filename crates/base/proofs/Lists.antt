@@ -1,11 +1,12 @@
 -- Laws of tests over numbers and lists.
-use Prim.Native.Nat.{ℕ, zero, suc, _≤_, _<_}
+use Prim.Native.Nat.{ℕ, zero, suc, _*_, _≤_, _<_}
 use mathlib.Core.Path.{_≡_, refl, sym, ap, subst, _∙_}
 use mathlib.Core.Logic.{_≢_}
 use mathlib.Core.Bool.{Bool, true, false, not, _&&_, _||_, or-false, or-assoc}
-use mathlib.Core.List.{List, [], _∷_, _++_, map, tail, List·Memᴰ, List·Memᴰ·head, List·Memᴰ·tail, List·Memᴰ·not-nil}
+use mathlib.Core.List.{List, [], _∷_, _++_, map, tail, flatMap, append-assoc, append-nil, List·Memᴰ, List·Memᴰ·head, List·Memᴰ·tail, List·Memᴰ·not-nil}
 use mathlib.Core.List.{List·Memᴰ·cases-cons, List·Memᴰ·append-cases, List·Memᴰ·eq-of-singleton}
-use lib.ListN.{length, getD, set, take, drop, replicate, length-map}
+use lib.ListN.{length, getD, set, take, drop, replicate, length-append, length-map}
+use native.Mathlib.Nat.{mul-suc}
 use lib.Dec.{eqb}
 use native.Mathlib.Omega.{arith}
 use borrow.Author.Tests.{eqb-true, eqb-false, eq-eqb, ne-eqb, not-true}
@@ -100,6 +101,23 @@ map-set f (y ∷ l) (suc k) x = ap (λ z. f y ∷ z) (map-set f l k x)
 pub map-replicate : {A B : Type 0} (f : A → B) (c : ℕ) (x : A) → map f (replicate c x) ≡ replicate c (f x)
 map-replicate f zero x = refl
 map-replicate f (suc c) x = ap (λ z. f x ∷ z) (map-replicate f c x)
+
+-- A list for each element, one after the other.
+module _ {A B : Type 0} (f : A → List B) where
+  pub flat-append : (xs ys : List A) → flatMap f (xs ++ ys) ≡ flatMap f xs ++ flatMap f ys
+  unfolding flatMap
+  flat-append [] ys = refl
+  flat-append (x ∷ xs) ys = rw (flat-append xs ys) (sym (append-assoc (f x) (flatMap f xs) (flatMap f ys)))
+
+  pub flat-one : (xs : List A) (x : A) → flatMap f (xs ++ (x ∷ [])) ≡ flatMap f xs ++ f x
+  unfolding flatMap
+  flat-one xs x = flat-append xs (x ∷ []) ∙ rw (append-nil (f x))
+
+  -- Where all are of one length.
+  pub flat-length : (width : ℕ) (l : List A) → ((x : A) → length (f x) ≡ width) → length (flatMap f l) ≡ width * length l
+  unfolding flatMap
+  flat-length width [] wide = omega arith
+  flat-length width (x ∷ l) wide = omega (arith, length-append (f x) (flatMap f l), wide x, flat-length width l wide, mul-suc width (length l))
 
 module _ {A : Type 0} (f : A → Bool) where
   -- Every element passes.

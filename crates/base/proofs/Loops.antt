@@ -4,8 +4,8 @@ use mathlib.Core.Path.{_≡_, refl, sym, ap, ap₂, _∙_}
 use mathlib.Core.Logic.{_≢_}
 use mathlib.Core.Bool.{Bool, true, false, not, _&&_, _||_, and-true, and-assoc}
 use mathlib.Core.List.{List, [], _∷_, _++_, map, append-nil, map-append, append-assoc}
-use lib.ListN.{length, getD, set, take, drop, replicate, length-append, length-set, length-replicate, getD-replicate, List·getD-append}
-use lib.Seq.{ext-getD, getD-at, getD-set-same, getD-set-other}
+use lib.ListN.{length, getD, set, take, drop, replicate, length-append, length-set, length-replicate, length-map, getD-replicate, List·getD-append, List·getD-eq-default, List·getD-map}
+use lib.Seq.{ext-getD, getD-at, getD-set-same, getD-set-other, take-suc-set, take-all}
 use lib.Dec.{ltb, leb, eqb}
 use native.Mathlib.Numerals.{add-one}
 use native.Mathlib.Omega.{arith}
@@ -160,6 +160,39 @@ module _ {A : Type 0} where
       ext-getD a (tabulate c f) (replicate c a) (tabulate-length c f ∙ sym (length-replicate c a))
       (λ k l. let m : k < c = omega (arith, tabulate-length c f) in tabulate-at c f k a m ∙ h k m ∙ sym (getD-replicate c k a a m))
 
+  -- A list is the values at its places.
+  pub tabulate-is : (l : List A) (c : ℕ) (f : ℕ → A) (d : A) → length l ≡ c → ((k : ℕ) → k < c → f k ≡ getD l k d) → tabulate c f ≡ l
+  tabulate-is l c f d e h =
+      ext-getD d (tabulate c f) l (tabulate-length c f ∙ sym e)
+      (λ k m. let n : k < c = omega (arith, tabulate-length c f) in tabulate-at c f k d n ∙ h k n)
+
+  -- A place of it, within the list or past its end.
+  pub tabulate-or : (c : ℕ) (f : ℕ → A) (k : ℕ) (d : A) → getD (tabulate c f) k d ≡ (if ltb k c then f k else d)
+  tabulate-or c f k d = go (ltb k c) refl
+    where
+      go : (b : Bool) → ltb k c ≡ b → getD (tabulate c f) k d ≡ (if b then f k else d)
+      go true e = tabulate-at c f k d (ltb-true k c e)
+      go false e = List·getD-eq-default (tabulate c f) d (omega (arith, tabulate-length c f, ltb-false k c e))
+
+  -- An array that a loop fills from its start: its first i places hold the values of f.
+  pub record Filled (c : ℕ) (f : ℕ → A) (l : List A) (i : ℕ) : Type 0 where
+    pub long : length l ≡ c
+    pub first : take i l ≡ tabulate i f
+
+  module _ (c : ℕ) (f : ℕ → A) (l : List A) where
+    pub filled-none : length l ≡ c → Filled c f l 0
+    unfolding tabulate
+    filled-none e = record { long = e; first = refl }
+
+    pub filled-more : (i : ℕ) (x : A) → Filled c f l i → i < c → x ≡ f i → Filled c f (set l i x) (i + 1)
+    filled-more i x h m e = record {
+      long = length-set l i x ∙ h .long;
+      first = rw add-one (take-suc-set l i x (omega (arith, h .long)) ∙ ap₂ (λ (z : List A) (y : A). z ++ (y ∷ [])) (h .first) e ∙ sym (tabulate-more i f) ∙ rw add-one);
+    }
+
+    pub filled-all : (i : ℕ) → Filled c f l i → i ≡ c → l ≡ tabulate c f
+    filled-all i h e = sym (take-all i l (omega (arith, h .long, e))) ∙ h .first ∙ ap (λ k. tabulate k f) e
+
   -- A list without place k, later ones moved up.
   removed-length : (l : List A) (k : ℕ) → k < length l → suc (length (take k l ++ drop (suc k) l)) ≡ length l
   removed-length [] k h = absurd (omega arith)
@@ -198,6 +231,16 @@ module _ {A : Type 0} where
           go false e =
               let l : k ≤ i = ltb-false i k e in
               after i l m ∙ sym (removed-after (tabulate (suc c) f) k i (f 0) l short ∙ tabulate-at (suc c) f (suc i) (f 0) (omega arith))
+
+-- The values, each changed.
+pub map-tabulate : {A B : Type 0} (g : A → B) (c : ℕ) (f : ℕ → A) → map g (tabulate c f) ≡ tabulate c (λ k. g (f k))
+unfolding tabulate
+map-tabulate g zero f = refl
+map-tabulate {A} {B} g (suc c) f = map-append g (tabulate c f) (f c ∷ []) ∙ ap (λ (z : List B). z ++ (g (f c) ∷ [])) (map-tabulate g c f)
+
+-- A list, each element changed, is the changed values at its places.
+pub tabulate-map : {A B : Type 0} (f : A → B) (l : List A) (c : ℕ) (d : A) → length l ≡ c → tabulate c (λ k. f (getD l k d)) ≡ map f l
+tabulate-map f l c d e = tabulate-is (map f l) c (λ k. f (getD l k d)) (f d) (length-map l f ∙ e) (λ k m. sym (List·getD-map f l k d))
 
 -- Tests of the values, and what is kept of them.
 module _ {A : Type 0} (t : A → Bool) where

@@ -3,7 +3,7 @@ use Prim.Native.Nat.{ℕ, zero, suc, _+_, _*_, _/_, _%_, _^_, _≤_, _<_}
 use mathlib.Core.Path.{_≡_, refl, sym, ap, _∙_}
 use mathlib.Core.List.{List, [], _∷_, _++_}
 use lib.ListN.{length, getD, take, drop, set, length-append}
-use lib.Seq.{sets, sets-eq, take-append-seam, take-at}
+use lib.Seq.{sets, sets-eq, set-comm, take-append-seam, take-at}
 use native.Mathlib.Nat.{pow-suc, add-zero, zero-add}
 use native.Mathlib.Omega.{arith}
 use mir.Syntax.{w8}
@@ -16,6 +16,20 @@ sets-append l at [] ys = rw add-zero
 sets-append l at (x ∷ xs) ys =
     let next : at + suc (length xs) ≡ suc at + length xs = omega arith in
     rw next (sets-append (set l at x) (suc at) xs ys)
+
+pub sets-next : {A : Type 0} (l : List A) (at end : ℕ) (xs ys : List A) → end ≡ at + length xs → sets (sets l at xs) end ys ≡ sets l at (xs ++ ys)
+sets-next l at end xs ys e = rw e (sets-append l at xs ys)
+
+-- Elements put below others don't meet them.
+set-apart : {A : Type 0} (l : List A) (i j : ℕ) (xs : List A) (y : A) → j < i → set (sets l i xs) j y ≡ sets (set l j y) i xs
+set-apart l i j [] y h = refl
+set-apart l i j (x ∷ xs) y h =
+    set-apart (set l i x) (suc i) j xs y (omega arith) ∙ ap (λ z. sets z (suc i) xs) (set-comm l i j x y (λ e. omega arith))
+
+pub sets-apart : {A : Type 0} (l : List A) (i j : ℕ) (xs ys : List A) → j + length ys ≤ i → sets (sets l i xs) j ys ≡ sets (sets l j ys) i xs
+sets-apart l i j xs [] h = refl
+sets-apart l i j xs (y ∷ ys) h =
+    ap (λ z. sets z (suc j) ys) (set-apart l i j xs y (omega arith)) ∙ sets-apart (set l j y) i (suc j) xs ys (omega arith)
 
 -- What is put at the start stands before what is kept, and is read back.
 pub sets-over : (l written : List ℕ) → length written ≤ length l → sets l 0 written ≡ over written l

@@ -1,7 +1,7 @@
 -- Numbers in bytes, "little-endian" (01, "Scripts and the printout").
 use Prim.Native.Nat.{ℕ, zero, suc, _+_, _*_, _/_, _%_, _<_}
 use mathlib.Core.List.{List, [], _∷_, _++_}
-use lib.ListN.{length, drop}
+use lib.ListN.{length, getD, take, drop}
 
 -- The bytes of v, the lowest first.
 unfoldable pub littleEndian : (width v : ℕ) → List ℕ
@@ -12,6 +12,13 @@ littleEndian (suc width) v = v % 256 ∷ littleEndian width (v / 256)
 unfoldable pub number : List ℕ → ℕ
 number [] = 0
 number (x ∷ bytes) = x + 256 * number bytes
+
+-- What stands at a place: a byte, and a number of so many bytes.
+abbrev pub byteAt : List ℕ → ℕ → ℕ
+byteAt bytes at = getD bytes at 0
+
+abbrev pub numberAt : (width : ℕ) → List ℕ → ℕ → ℕ
+numberAt width bytes at = number (take width (drop at bytes))
 
 -- An array after these bytes were written at its start: "Places past what is written .. are kept."
 unfoldable pub over : (written before : List ℕ) → List ℕ

@@ -1,5 +1,6 @@
 // Little-endian numbers in bytes, and bytes put into a lent array.
 ghost use mathlib.Core.Path.{_≡_};
+ghost use mathlib.Core.List.{[], _∷_};
 ghost use Prim.Native.Nat.{_+_, _*_, _%_, _<_, _≤_, _^_};
 ghost use lib.ListN.{length, take, drop};
 ghost use lib.Seq.{sets};
@@ -45,6 +46,14 @@ pub fn put_number(out: &mut [u8], at: usize, width: usize, v: u64)
         rest = rest / 256;
         i += 1;
     }
+}
+
+// A byte at a place; the others are kept.
+pub fn put_byte(out: &mut [u8], at: usize, byte: u8)
+    requires { ⌜ at + 1 ≤ length (now out) ⌝ }
+    ensures { λ _. ⌜ now (out .exit) ≡ sets (now (out .entry)) at (byte ∷ []) ⌝ }
+{
+    out[at] = byte;
 }
 
 // These bytes from a place on; the others are kept.

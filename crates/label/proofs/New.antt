@@ -1,6 +1,6 @@
 -- New label by its cases, and that the label it takes maintains order.
 use Prim.Native.Nat.{ℕ, _+_, _*_, _<_, _≤_}
-use mathlib.Core.Path.{_≡_, refl, sym, _∙_}
+use mathlib.Core.Path.{_≡_, refl, sym, ap, _∙_}
 use mathlib.Core.Logic.{_⊎_, inl, inr}
 use mathlib.Core.Bool.{Bool, true, false}
 use native.Mathlib.Omega.{arith}
@@ -150,5 +150,33 @@ module _ (a c v g : Label) (ra : inRange a ≡ true) (rc : inRange c ≡ true) (
       cached ha true hc = cases ha hc (≻-ordered a v ha) (≻-ordered c v hc)
 
       own : (t : Bool) → above a v ≡ t → MaintainsOrder a c v g
+      own false ha = gave-none (new-112 a c v ha) h
+      own true ha = cached ha (above c v) refl
+
+  -- It has the advertised sequence number.
+  pub new-number : newLabel a c v ≡ took g → g .s .0 ≡ v .s .0
+  unfolding next split
+  new-number h = own (above a v) refl
+    where
+      fits : (m d : ℕ) → fitting (v .s .0) m d ≡ took g → g .s .0 ≡ v .s .0
+      fits m d k = ap (λ (l : Label). l .s .0) (fitting-took (v .s .0) m d g k)
+
+      same : a ≻ v → c ≻ v → a .s .0 ≡ v .s .0 → (t : Bool) → above c a ≡ t → g .s .0 ≡ v .s .0
+      same ha hc e true k =
+          let taken : newLabel a c v ≡ took a = new-own a c v ha hc (omega arith) k in
+          let z : g ≡ a = cc in
+          ap (λ (l : Label). l .s .0) z ∙ e
+      same ha hc e false k = fits _ _ (sym (new-split a c v ha hc (omega arith) k) ∙ h)
+
+      cases : a ≻ v → c ≻ v → Ordered _<_ a v → Ordered _<_ c v → g .s .0 ≡ v .s .0
+      cases ha hc (by-number l) (by-number n) = fits _ _ (sym (new-next a c v ha hc l n) ∙ h)
+      cases ha hc (by-number l) (by-fraction f _) = fits _ _ (sym (new-split-cached a c v ha hc l (omega arith)) ∙ h)
+      cases ha hc (by-fraction e _) o = same ha hc e (above c a) refl
+
+      cached : a ≻ v → (t : Bool) → above c v ≡ t → g .s .0 ≡ v .s .0
+      cached ha false hc = gave-none (new-113 a c v ha hc) h
+      cached ha true hc = cases ha hc (≻-ordered a v ha) (≻-ordered c v hc)
+
+      own : (t : Bool) → above a v ≡ t → g .s .0 ≡ v .s .0
       own false ha = gave-none (new-112 a c v ha) h
       own true ha = cached ha (above c v) refl

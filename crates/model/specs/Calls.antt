@@ -41,6 +41,10 @@ unfoldable pub after : Network → Result → Network
 after net (refused number) = net
 after net (accepted e) = e .net
 
+-- The numbers that a call on the network is turned down with: 1 to 8.
+unfoldable pub turnsDown : ℕ → Bool
+turnsDown number = ltb 0 number && ltb number 9
+
 -- "A number is returned in its row's case, where none tested earlier applies, and in no other."
 infix 10 refuse_when_otherwise_
 unfoldable pub refuse_when_otherwise_ : ℕ → Bool → Result → Result

@@ -184,14 +184,13 @@ pub struct Cut {
 }
 
 // The rows with j taken out of those that i holds for the masked destinations below n.
-pub fn take_out(rows: [Row; 256], i: u8, j: u8, n: u8, mask: u16) -> Cut
+pub fn take_out(mut rows: [Row; 256], i: u8, j: u8, n: u8, mask: u16) -> Cut
     requires { ⌜ (i < 16) × (n ≤ 16) ⌝ }
     requires { ⌜ ((t : ℕ) → t < n → getD rows (place i t) zeroRow .count ≤ 4) ⌝ }
     ensures rows { λ r. ⌜ map rowOf (r .rows) ≡ takeOut (bit mask) (names j) i n (map rowOf rows) ⌝ }
     ensures emptied { λ r. ⌜ r .emptied ≡ emptied (bit mask) (names j) i n (map rowOf rows) ⌝ }
     ensures removed { λ r. ⌜ r .removed ≡ removes (bit mask) (names j) i n (map rowOf rows) ⌝ }
 {
-    let mut next = rows;
     let mut emptied = 0;
     let mut removed = false;
     let mut t = 0;
@@ -201,14 +200,14 @@ pub fn take_out(rows: [Row; 256], i: u8, j: u8, n: u8, mask: u16) -> Cut
             let row = rows[at];
             let loss = lose(row, j);
             let kept = loss.row;
-            next[at] = kept;
+            rows[at] = kept;
             emptied = marked(emptied, t, loss.emptied);
             removed = removed | loss.removed;
         }
         t += 1;
     }
     Cut {
-        rows: next,
+        rows: rows,
         emptied: emptied,
         removed: removed,
     }

@@ -9,6 +9,7 @@ use lib.Dec.{eqb}
 use native.Mathlib.Numerals.{add-one}
 use native.Mathlib.Omega.{arith}
 use Rattle.base.specs.Lists.{below, tabulate}
+use Rattle.base.proofs.Lists.{flat-append, flat-one}
 use Rattle.base.proofs.Loops.{map-below-yes, map-below-no}
 use Rattle.label.specs.declared.Label.{Label}
 use Rattle.label.specs.Label.{isUnassigned}
@@ -19,7 +20,6 @@ use Rattle.network.specs.declared.Memory.{Memory}
 use Rattle.network.specs.View.{zeroRow, entryOf, rowOf, labelOf, view}
 use Rattle.network.proofs.ViewLaws.{label-at, row-at}
 use Rattle.printout.specs.Text.{field, refusalText, labelText}
-use Rattle.printout.proofs.TextLaws.{flat-append, flat-one}
 
 -- The text of a refusal, in the parts that are put.
 pub refusal-text : (number : ℕ) → refusalText number ≡ (82 ∷ field number) ++ (10 ∷ [])

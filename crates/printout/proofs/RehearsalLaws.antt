@@ -8,6 +8,7 @@ use lib.ListN.{length, getD, take, replicate, length-replicate}
 use lib.Seq.{length-take-le}
 use native.Mathlib.Omega.{arith}
 use Rattle.base.specs.Lists.{tabulate}
+use Rattle.base.proofs.Lists.{flat-one}
 use Rattle.base.proofs.Loops.{tabulate-more}
 use Rattle.codec.proofs.ByteLaws.{over-first}
 use Rattle.model.specs.Memory.{Network}
@@ -30,7 +31,6 @@ use Rattle.script.proofs.ScriptLaws.{sized-tell, kinds-length, operands-length,
 use Rattle.script.proofs.RoundTrip.{read-opens, too-long}
 use Rattle.printout.specs.Text.{refusalText, eventText, labelText, rehearsalText}
 use Rattle.printout.specs.Printed.{textOf, printed, RoutesLoopFree}
-use Rattle.printout.proofs.TextLaws.{flat-one}
 
 module _ (n start : ℕ) (kinds operands : List ℕ) where
   -- The lines of the first i events.

@@ -1,7 +1,7 @@
 -- Laws of decimal fields, and of text put into an array.
 use Prim.Native.Nat.{ℕ, zero, suc, _+_, _-_, _/_, _%_, _^_, _≤_, _<_}
 use mathlib.Core.Path.{_≡_, refl, sym, ap, _∙_}
-use mathlib.Core.List.{List, [], _∷_, _++_, append-assoc, append-nil, flatMap}
+use mathlib.Core.List.{List, [], _∷_, _++_, flatMap}
 use lib.ListN.{length, getD, set, take, length-append}
 use lib.Seq.{take-suc, length-sets}
 use lib.Dec.{ltb}
@@ -10,6 +10,7 @@ use native.Mathlib.Numerals.{add-one, sub-one}
 use native.Mathlib.Omega.{arith}
 use borrow.Author.Tests.{lt-ltb, le-ltb}
 use Rattle.base.proofs.Flags.{choose, Against, less, equal, more, against}
+use Rattle.base.proofs.Lists.{flat-one}
 use Rattle.codec.proofs.ByteLaws.{sets-append, take-sets}
 use Rattle.io.specs.Digits.{digits, Fewest}
 use Rattle.printout.specs.Text.{digitsOf, decimal, field}
@@ -80,15 +81,6 @@ fields-within (k ∷ most) (x ∷ l) h =
 
 -- Texts one after the other.
 module _ {A : Type 0} (f : A → List ℕ) where
-  pub flat-append : (xs ys : List A) → flatMap f (xs ++ ys) ≡ flatMap f xs ++ flatMap f ys
-  unfolding flatMap
-  flat-append [] ys = refl
-  flat-append (x ∷ xs) ys = rw (flat-append xs ys) (sym (append-assoc (f x) (flatMap f xs) (flatMap f ys)))
-
-  pub flat-one : (xs : List A) (x : A) → flatMap f (xs ++ (x ∷ [])) ≡ flatMap f xs ++ f x
-  unfolding flatMap
-  flat-one xs x = flat-append xs (x ∷ []) ∙ rw (append-nil (f x))
-
   pub flat-prefix : (l : List A) (k : ℕ) → length (flatMap f (take k l)) ≤ length (flatMap f l)
   unfolding flatMap
   flat-prefix l zero = omega arith
@@ -97,7 +89,7 @@ module _ {A : Type 0} (f : A → List ℕ) where
       omega (arith, length-append (f x) (flatMap f (take k l)), length-append (f x) (flatMap f l), flat-prefix l k)
 
   pub flat-take : (l : List A) (i : ℕ) (d : A) → i < length l → flatMap f (take (i + 1) l) ≡ flatMap f (take i l) ++ f (getD l i d)
-  flat-take l i d h = rw (add-one, take-suc l i d h) (flat-one (take i l) (getD l i d))
+  flat-take l i d h = rw (add-one, take-suc l i d h) (flat-one f (take i l) (getD l i d))
 
 -- Nothing put, one byte put, and a text put after another.
 pub puts-none : (before : List ℕ) (at : ℕ) → Puts before at [] at before

@@ -6,15 +6,16 @@ use native.Mathlib.Omega.{arith}
 use borrow.Author.Needs.{needs}
 use Rattle.base.specs.Choice.{if_then_else_}
 use Rattle.base.proofs.Flags.{cases}
+use Rattle.model.specs.Memory.{place}
 use Rattle.network.proofs.CutLaws.{Taking, taking-none, taking-below, taking-not, taking-more}
 use Rattle.network.proofs.rows.take_out.Statement.{statement}
 use Rattle.network.proofs.rows.take_out.Tie as tie
 
 abbrev Inv-loop : tie.InvT-loop
-Inv-loop i j n mask rows next₀ emptied₀ removed₀ t₀ next emptied removed t = (t ≤ n) × Taking mask j i rows t next emptied removed
+Inv-loop i j n mask rows₀ emptied₀ removed₀ t₀ rows emptied removed t = (t ≤ n) × Taking mask j i rows₀ t rows emptied removed
 
 abbrev μ-loop : tie.MeasureT-loop
-μ-loop i j n mask rows next₀ emptied₀ removed₀ t₀ next emptied removed t = n - t
+μ-loop i j n mask rows₀ emptied₀ removed₀ t₀ rows emptied removed t = n - t
 
 loop-holds : tie.Need-loop-holds Inv-loop μ-loop
 loop-holds c = (omega arith, taking-none _ _ _ _)
@@ -33,14 +34,14 @@ array-copy-out-row c = search needs
 
 lose-requires : tie.Need-lose-requires Inv-loop μ-loop
 lose-requires c κs =
-    let start = c .before .before .before .before .before .before in
-    rw (c .before .place .ensures) (start .pre .1 (c .before .before .before .before .before .loop .t) (omega arith))
+    let loop = c .before .before .before .before .before in
+    rw (c .before .place .ensures, loop .loop .inv .1 .rest (place (loop .before .args .i) (loop .loop .t)) (omega arith)) (loop .before .pre .1 (loop .loop .t) (omega arith))
 
-mul-next : tie.Need-mul-next Inv-loop μ-loop
-mul-next c = search needs
+mul-rows : tie.Need-mul-rows Inv-loop μ-loop
+mul-rows c = search needs
 
-array-set-from-next : tie.Need-array-set-from-next Inv-loop μ-loop
-array-set-from-next c = search needs
+array-set-from-rows : tie.Need-array-set-from-rows Inv-loop μ-loop
+array-set-from-rows c = search needs
 
 marked-requires : tie.Need-marked-requires Inv-loop μ-loop
 marked-requires c κs = (omega arith, taking-below _ _ _ _ _ _ _ _ (c .before .before .before .before .before .before .before .loop .inv .1))
@@ -60,7 +61,7 @@ loop-again c =
     (c .if1 .came)
     (λ w.
     let e = w .1 .ensures in
-    let lost = rw e at (w .3 .ensures) in (
+    let lost = rw (e, at .inv .1 .rest (place (args .i) (at .t)) (omega arith)) at (w .3 .ensures) in (
       omega arith,
       rw (w .7, e)
           (taking-more _ _ _ _ _ _ _ _ (at .inv .1) _ _ _ (masked ∙ w .0 .taken) (lost .0)
@@ -87,8 +88,8 @@ take-out-spec =
     mul-row
     array-copy-out-row
     lose-requires
-    mul-next
-    array-set-from-next
+    mul-rows
+    array-set-from-rows
     marked-requires
     add-t
     loop-less

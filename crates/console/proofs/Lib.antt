@@ -1,0 +1,6 @@
+pub mod ConsoleLaws
+pub mod LabelResults
+pub mod MadeLaws
+pub mod ScriptResults
+pub mod ShowLaws
+pub mod ShownLaws

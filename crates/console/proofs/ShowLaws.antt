@@ -1,0 +1,83 @@
+-- Laws of what a console shows: how it ends, and what is known of bytes in range.
+use Prim.Native.Nat.{ℕ, _≤_, _<_}
+use mathlib.Core.Path.{_≡_, refl, _∙_}
+use mathlib.Core.Bool.{true, false, not, _&&_}
+use mathlib.Core.List.{List}
+use lib.ListN.{length}
+use lib.Seq.{sets}
+use lib.Dec.{leb}
+use borrow.Author.Tests.{lt-ltb, le-ltb, leb-true}
+use Rattle.base.specs.Lists.{allBelow}
+use Rattle.base.proofs.Flags.{both, neither}
+use Rattle.codec.specs.Bytes.{byteAt}
+use Rattle.codec.proofs.ByteLaws.{sets-over}
+use Rattle.model.specs.Memory.{Network, airLimit, memoryInRange}
+use Rattle.layout.specs.Places.{layoutLength, airAt}
+use Rattle.layout.specs.Stored.{storedNetwork}
+use Rattle.layout.specs.Meaning.{stationHasMeaning, hasMeaning}
+use Rattle.script.specs.Script.{Ended, refused, done}
+use Rattle.console.specs.Results.{packed, telling, Puts}
+use Rattle.console.specs.Console.{notMemory}
+use Rattle.console.specs.Showing.{outOfRange, showing, fitted}
+use Rattle.console.proofs.ConsoleLaws.{memory-long, memory-meant}
+
+-- Bytes in range: they are long enough, and n and the number of packets are within the layout's places.
+pub record Known (bytes : List ℕ) : Type 0 where
+  pub long : layoutLength ≤ length bytes
+  pub few : byteAt bytes 0 ≤ 16
+  pub room : byteAt bytes airAt ≤ airLimit
+
+pub known : (bytes : List ℕ) → outOfRange bytes ≡ false → Known bytes
+unfolding outOfRange hasMeaning
+known bytes h =
+    let memory = neither (notMemory bytes) (not (memoryInRange (storedNetwork bytes))) h .0 in
+    let n = byteAt bytes 0 in
+    let count = byteAt bytes airAt in
+    let stations = allBelow n (stationHasMeaning bytes n) in
+    let parts = both (leb n 16 && leb count airLimit && stations) _ (memory-meant bytes memory) in
+    let sizes = both (leb n 16) (leb count airLimit) (both (leb n 16 && leb count airLimit) stations (parts .0) .0) in
+    record { long = memory-long bytes memory; few = leb-true n 16 (sizes .0); room = leb-true count airLimit (sizes .1) }
+
+module _ {A : Type 0} (bytes : List ℕ) (show : Network → Ended A) where
+  pub showing-1 : outOfRange bytes ≡ true → showing bytes show ≡ refused 1
+  unfolding showing
+  showing-1 h = rw h
+
+  pub showing-net : outOfRange bytes ≡ false → showing bytes show ≡ show (storedNetwork bytes)
+  unfolding showing
+  showing-net h = rw h
+
+-- A number told.
+module _ (bytes : List ℕ) (show : Network → Ended ℕ) where
+  pub tells-1 : outOfRange bytes ≡ true → 1 ≡ telling (showing bytes show)
+  unfolding telling
+  tells-1 h = rw (showing-1 bytes show h)
+
+  pub tells-refused : (number : ℕ) → outOfRange bytes ≡ false → show (storedNetwork bytes) ≡ refused number → packed number 0 ≡ telling (showing bytes show)
+  unfolding telling
+  tells-refused number h e = rw (showing-net bytes show h, e)
+
+  pub tells-value : (value r : ℕ) → outOfRange bytes ≡ false → show (storedNetwork bytes) ≡ done value → r ≡ packed 0 value → r ≡ telling (showing bytes show)
+  unfolding telling
+  tells-value value r h e q = q ∙ rw (showing-net bytes show h, e)
+
+-- Bytes put into a lent array.
+module _ (bytes : List ℕ) (show : Network → Ended (List ℕ)) (out : List ℕ) where
+  pub puts-1 : outOfRange bytes ≡ true → Puts (fitted (length out) (showing bytes show)) out 1 out
+  unfolding Puts fitted
+  puts-1 h = rw (showing-1 bytes show h) (refl, refl)
+
+  pub puts-refused : (number : ℕ) → outOfRange bytes ≡ false → show (storedNetwork bytes) ≡ refused number
+      → Puts (fitted (length out) (showing bytes show)) out (packed number 0) out
+  unfolding Puts fitted
+  puts-refused number h e = rw (showing-net bytes show h, e) (refl, refl)
+
+  module _ (shown : List ℕ) (h : outOfRange bytes ≡ false) (e : show (storedNetwork bytes) ≡ done shown) where
+    pub puts-12 : length out < length shown → Puts (fitted (length out) (showing bytes show)) out 12 out
+    unfolding Puts fitted
+    puts-12 l = rw (showing-net bytes show h, e, lt-ltb (length out) (length shown) l) (refl, refl)
+
+    pub puts-shown : (r : ℕ) (out′ : List ℕ) → length shown ≤ length out → r ≡ packed 0 (length shown) → out′ ≡ sets out 0 shown
+        → Puts (fitted (length out) (showing bytes show)) out r out′
+    unfolding Puts fitted
+    puts-shown r out′ l q p = rw (showing-net bytes show h, e, le-ltb (length out) (length shown) l) (q, p ∙ sets-over out shown l)

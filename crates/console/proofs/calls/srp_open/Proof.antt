@@ -1,0 +1,37 @@
+-- `calls::srp_open` meets its contract: refused with 1 for the length, or the call.
+use mathlib.Core.Path.{refl}
+use borrow.Author.Needs.{needs}
+use borrow.Author.Tests.{lt-ltb, le-ltb}
+use Rattle.model.specs.Calls.{Open, step}
+use Rattle.console.specs.Console.{tooShort, unreadable}
+use Rattle.console.proofs.ConsoleLaws.{ends-1, ends-finished}
+use Rattle.console.proofs.calls.srp_open.Statement.{statement}
+use Rattle.console.proofs.calls.srp_open.Tie as tie
+
+returns : tie.Need-returns
+unfolding unreadable tooShort
+returns c = ends-1 (Open _ _) _ (lt-ltb _ _ (c .if1 .taken))
+
+fresh-requires : tie.Need-fresh-requires
+fresh-requires c κs = search needs
+
+open-requires : tie.Need-open-requires
+open-requires c κs = search needs
+
+finish-requires : tie.Need-finish-requires
+finish-requires c κs = search needs
+
+same-length : tie.Need-same-length
+same-length c = search needs
+
+returns-2 : tie.Need-returns-2
+unfolding unreadable tooShort step
+returns-2 c =
+    let call = c .before .before .before in
+    let past = call .before .before .before in
+    let args = past .before .before .args in
+    ends-finished (Open (args .n) (args .start)) (args .memory .now) _ _ _ (le-ltb _ _ (past .if1 .left)) (past .if1 .left) _ refl (call .«open» .ensures) (c .before .before .finish .ensures)
+
+pub srp-open-spec : {M : Type 1} → statement M
+srp-open-spec =
+    tie.close (tie.spec returns fresh-requires open-requires finish-requires same-length returns-2)

@@ -1,0 +1,5 @@
+pub mod Results
+pub mod Console
+pub mod Contracts
+pub mod Showing
+pub mod Made

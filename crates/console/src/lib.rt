@@ -1,0 +1,63 @@
+// The console: entry points for C on numbers and byte slices (include/srp.h, docs/LAYOUT.md). No function asks anything of its caller.
+// Results are two numbers in one: specs/Results.antt.
+ghost use mathlib.Core.Path.{_≡_};
+ghost use Prim.Native.Nat.{_≤_};
+ghost use lib.ListN.{length};
+ghost use Rattle.layout.specs.Places.{layoutLength};
+ghost use Rattle.console.specs.Results.{packed};
+ghost use Rattle.console.specs.Console.{notMemory};
+ghost use Rattle.console.specs.Showing.{outOfRange};
+ghost use Rattle.console.specs.Contracts.{Finished};
+use layout::meaning::has_meaning;
+use layout::memory::read;
+use layout::memory::write;
+use layout::places::LENGTH;
+use network::range::in_range;
+use steps::Done;
+
+pub mod calls;
+pub mod labels;
+pub mod scripts;
+pub mod showing;
+
+// An answer and a count in one number.
+fn packed(answer: u32, count: u32) -> u64
+    ensures { λ r. ⌜ r ≡ packed answer count ⌝ }
+{
+    answer as u64 + 4294967296 * (count as u64)
+}
+
+// Whether the bytes are too few, or have no meaning.
+fn not_memory(bytes: &[u8]) -> bool
+    ensures { λ r. ⌜ r ≡ notMemory (now (bytes .entry)) ⌝ }
+{
+    if bytes.len() < LENGTH {
+        return true;
+    }
+    !has_meaning(bytes)
+}
+
+// Whether they are not memory, or memory out of range.
+fn out_of_range(bytes: &[u8]) -> bool
+    ensures { λ r. ⌜ r ≡ outOfRange (now (bytes .entry)) ⌝ }
+{
+    if not_memory(bytes) {
+        return true;
+    }
+    !in_range(read(bytes))
+}
+
+// What a call gave, written into the bytes where it was accepted.
+fn finish(bytes: &mut [u8], done: Done) -> u64
+    requires { ⌜ layoutLength ≤ length (now bytes) ⌝ }
+    ensures { λ r. ⌜ Finished done (now (bytes .entry)) r (now (bytes .exit)) ⌝ }
+{
+    let answer = done.answer;
+    let sent = done.sent;
+    if (0 < answer) & (answer < 9) {
+        return packed(answer, sent as u32);
+    }
+    let memory = done.memory;
+    write(bytes, memory);
+    packed(answer, sent as u32)
+}

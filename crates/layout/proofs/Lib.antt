@@ -1,0 +1,7 @@
+pub mod BackLaws
+pub mod EntryLaws
+pub mod FlagLaws
+pub mod NetworkLaws
+pub mod ReadBack
+pub mod StoredLaws
+pub mod WritingLaws

@@ -1,0 +1,50 @@
+-- `entries::entry_of` meets its contract: past the count, or within it.
+use mathlib.Core.Path.{sym, _∙_}
+use native.Mathlib.Omega.{arith}
+use borrow.Author.Needs.{needs}
+use borrow.Author.Tests.{le-ltb}
+use Rattle.base.proofs.Loops.{tabulate-at, tabulate-or}
+use Rattle.model.specs.Memory.{zeroLabel}
+use Rattle.network.specs.View.{entryOf, rowOf}
+use Rattle.layout.specs.Written.{zeroSuccessor}
+use Rattle.layout.proofs.entries.entry_of.Statement.{statement}
+use Rattle.layout.proofs.entries.entry_of.Tie as tie
+
+cast-count : tie.Need-cast-count
+cast-count c = search needs
+
+label-of-requires : tie.Need-label-of-requires
+label-of-requires c κs = search needs
+
+returns : tie.Need-returns
+unfolding rowOf entryOf zeroSuccessor zeroLabel
+returns c =
+    let row = c .before .before .args .t1 in
+    rw (c .label-of .ensures) (sym (tabulate-or (row .count) (entryOf row) (c .before .before .args .k) zeroSuccessor ∙ rw (le-ltb (c .before .before .args .k) (row .count) (c .before .if1 .taken))))
+
+mul-label : tie.Need-mul-label
+mul-label c = search needs
+
+element-copy-out-label : tie.Need-element-copy-out-label
+element-copy-out-label c = search needs
+
+element-copy-out-station : tie.Need-element-copy-out-station
+element-copy-out-station c = search needs
+
+returns-2 : tie.Need-returns-2
+unfolding rowOf entryOf
+returns-2 c =
+    let row = c .before .before .before .args .t1 in
+    sym (tabulate-at (row .count) (entryOf row) (c .before .before .before .args .k) zeroSuccessor (omega arith))
+
+pub entry-of-spec : {M : Type 1} → statement M
+entry-of-spec =
+    tie.close
+    (tie.spec
+    cast-count
+    label-of-requires
+    returns
+    mul-label
+    element-copy-out-label
+    element-copy-out-station
+    returns-2)

@@ -1,0 +1,114 @@
+-- `entries::put_row` meets its contract: the count, and then the first k entries are put.
+use Prim.Native.Nat.{ℕ, _+_, _-_, _≤_}
+use mathlib.Core.Path.{_≡_, refl, subst, _∙_}
+use mathlib.Core.List.{[], _∷_, flatMap}
+use lib.ListN.{getD}
+use native.Mathlib.Omega.{arith}
+use borrow.Author.Needs.{needs}
+use Rattle.base.specs.Lists.{tabulate}
+use Rattle.base.proofs.Lists.{unmapped}
+use Rattle.codec.proofs.ByteLaws.{sets-next}
+use Rattle.model.specs.Memory.{Successor}
+use Rattle.network.specs.declared.Row.{Row}
+use Rattle.network.specs.View.{rowOf}
+use Rattle.network.proofs.RowLaws.{Four, row-length}
+use Rattle.layout.specs.Written.{padded, zeroSuccessor, successorBytes, rowBytes}
+use Rattle.layout.specs.Fits.{LabelFits}
+use Rattle.layout.proofs.EntryLaws.{successor-wide, row-past}
+use Rattle.layout.proofs.WritingLaws.{Put, put-none, put-length, put-more}
+use Rattle.layout.proofs.entries.put_row.Statement.{statement}
+use Rattle.layout.proofs.entries.put_row.Tie as tie
+
+abbrev EntryFits : Successor → Type 0
+EntryFits e = LabelFits (e .label)
+
+abbrev entryIn : Row → ℕ → Successor
+entryIn row k = getD (rowOf row) k zeroSuccessor
+
+abbrev Inv-loop : tie.InvT-loop
+Inv-loop out₀ at row count k₀ out k =
+    (k ≤ 4) × Put successorBytes EntryFits (entryIn row) out₀ (at + 1) out k
+
+abbrev μ-loop : tie.MeasureT-loop
+μ-loop out₀ at row count k₀ out k = 4 - k
+
+-- The row's arrays have four places.
+four : (c : tie.Start Inv-loop μ-loop) → Four (c .args .row)
+four c = record { stations-length = search needs; labels-length = unmapped _ (c .args .row .labels) 4 (c .good .1 .1 .0 .1 .1 .0 .1 .0 .1) }
+
+put-byte-requires : tie.Need-put-byte-requires Inv-loop μ-loop
+put-byte-requires c κs = search needs
+
+loop-holds : tie.Need-loop-holds Inv-loop μ-loop
+loop-holds c = (omega arith, put-none successorBytes EntryFits _ _ _)
+
+add-put-entry : tie.Need-add-put-entry Inv-loop μ-loop
+add-put-entry c = search needs
+
+mul-put-entry : tie.Need-mul-put-entry Inv-loop μ-loop
+mul-put-entry c = search needs
+
+add-put-entry-2 : tie.Need-add-put-entry-2 Inv-loop μ-loop
+add-put-entry-2 c = search needs
+
+entry-of-requires : tie.Need-entry-of-requires Inv-loop μ-loop
+entry-of-requires c κs = search needs
+
+put-entry-requires : tie.Need-put-entry-requires Inv-loop μ-loop
+put-entry-requires c κs =
+    let loop = c .before .before .before .loop in
+    omega (arith, put-length successorBytes EntryFits _ _ _ (loop .out) (loop .k) (loop .inv .1))
+
+add-k : tie.Need-add-k Inv-loop μ-loop
+add-k c = search needs
+
+loop-less : tie.Need-loop-less Inv-loop μ-loop
+loop-less c = search needs
+
+loop-again : tie.Need-loop-again Inv-loop μ-loop
+loop-again c =
+    let put = c .before .before in
+    let loop = put .before .before .before .before .loop in (
+      omega arith,
+      put-more successorBytes EntryFits _ _ _ (loop .out) (loop .k) (loop .inv .1) 17 successor-wide _
+          (put .put-entry .ensures .0 ∙ rw (put .before .entry-of .ensures))
+          (subst EntryFits (put .before .entry-of .ensures) (put .put-entry .ensures .1)),
+    )
+
+same-length : tie.Need-same-length Inv-loop μ-loop
+same-length c =
+    let loop = c .before .loop in
+    put-length successorBytes EntryFits _ _ _ (loop .out) (loop .k) (loop .inv .1) ∙ c .before .before .before .before .put-byte .kept .0
+
+returns : tie.Need-returns Inv-loop μ-loop
+unfolding rowBytes padded
+returns c =
+    let first = c .before .before .before .before in
+    let start = first .before .before .before in
+    let row = start .args .row in
+    let loop = c .before .loop in
+    let all : loop .k ≡ 4 = omega arith in
+    let put = loop .inv .1 in (
+      put .stands ∙ rw (all, first .put-byte .ensures, row-length row) (sets-next (start .args .out .now) (start .args .at) (start .args .at + 1) (row .count ∷ [])
+          (flatMap successorBytes (tabulate 4 (entryIn row))) refl),
+      record { labels = λ k h. put .fits k (omega arith); past = row-past row (four start) },
+    )
+
+pub put-row-spec : {M : Type 1} → statement M
+put-row-spec =
+    tie.close
+    (tie.spec
+    Inv-loop
+    μ-loop
+    put-byte-requires
+    loop-holds
+    add-put-entry
+    mul-put-entry
+    add-put-entry-2
+    entry-of-requires
+    put-entry-requires
+    add-k
+    loop-less
+    loop-again
+    same-length
+    returns)

@@ -1,0 +1,5 @@
+pub mod Places
+pub mod Stored
+pub mod Written
+pub mod Fits
+pub mod Meaning

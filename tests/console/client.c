@@ -1,0 +1,1675 @@
+/*
+ * A client in C of the entry points in include/srp.h. It holds them to 01 and to docs/LAYOUT.md: 01's example, New label, scripts,
+ * refusals, memory that was damaged, and the places that are free.
+ *
+ *     client [STEP]     damages every STEP-th byte of the memory in turn; 1 if not given
+ *
+ * A check that fails prints its place and the values. The last line has the number of checks; the exit status is 1 if one failed.
+ */
+#include "srp.h"
+
+#include <inttypes.h>
+#include <stdbool.h>
+#include <stdio.h>
+#include <stdlib.h>
+#include <string.h>
+
+/* ---- Checks --------------------------------------------------------------------------------- */
+
+#define PRINTED_FAILURES 40
+
+static struct {
+    unsigned long checks;
+    unsigned long failures;
+} tally;
+
+/* Whether a check that failed is printed: the first ones are. */
+static bool told(bool holds)
+{
+    tally.checks++;
+    if (holds)
+        return false;
+    tally.failures++;
+    return tally.failures <= PRINTED_FAILURES;
+}
+
+static void check_eq(int line, const char *what, uint64_t actual, uint64_t expected)
+{
+    if (told(actual == expected))
+        fprintf(stderr, "%s:%d: %s is %" PRIu64 " (%#" PRIx64 "), expected %" PRIu64 " (%#" PRIx64 ")\n", __FILE__, line, what, actual,
+                actual, expected, expected);
+}
+
+static void check_same(int line, const char *what, const uint8_t *actual, const uint8_t *expected, size_t length)
+{
+    size_t at = 0;
+
+    if (!told(memcmp(actual, expected, length) == 0))
+        return;
+    while (at + 1 < length && actual[at] == expected[at])
+        at++;
+    fprintf(stderr, "%s:%d: %s: byte %zu is %u, expected %u\n", __FILE__, line, what, at, actual[at], expected[at]);
+}
+
+#define CHECK_EQ(actual, expected) check_eq(__LINE__, #actual, (actual), (expected))
+#define CHECK_SAME(actual, expected, length) check_same(__LINE__, #actual, (actual), (expected), (length))
+#define CHECK_LABEL(at, s, m, d)                                                                                                         \
+    do {                                                                                                                                 \
+        CHECK_EQ(srp_read8((at) + SRP_LABEL_S), (s));                                                                                    \
+        CHECK_EQ(srp_read4((at) + SRP_LABEL_M), (m));                                                                                    \
+        CHECK_EQ(srp_read4((at) + SRP_LABEL_D), (d));                                                                                    \
+    } while (0)
+
+/* A result with an answer and a count. */
+static uint64_t result(uint32_t answer, uint64_t count)
+{
+    return answer | count << 32;
+}
+
+/* ---- Memory --------------------------------------------------------------------------------- */
+
+static void *allocated(size_t length)
+{
+    void *memory = malloc(length ? length : 1);
+
+    if (!memory) {
+        fprintf(stderr, "%s: no memory\n", __FILE__);
+        exit(2);
+    }
+    return memory;
+}
+
+/* These bytes in a slice of their own, with nothing of ours before or behind it. */
+static uint8_t *copied(const uint8_t *bytes, size_t length)
+{
+    return memcpy(allocated(length), bytes, length);
+}
+
+static void put(uint8_t *at, int width, uint64_t number)
+{
+    for (int i = 0; i < width; i++)
+        at[i] = (uint8_t)(number >> 8 * i);
+}
+
+static void put_label(uint8_t *at, uint64_t s, uint32_t m, uint32_t d)
+{
+    put(at + SRP_LABEL_S, 8, s);
+    put(at + SRP_LABEL_M, 4, m);
+    put(at + SRP_LABEL_D, 4, d);
+}
+
+/* Numbers that look random, the same in every run (xorshift). */
+static uint64_t next_random(uint64_t *state)
+{
+    *state ^= *state << 13;
+    *state ^= *state >> 7;
+    *state ^= *state << 17;
+    return *state;
+}
+
+/* ---- Calls ---------------------------------------------------------------------------------- */
+
+/* Every call on memory, by a number: the script's kinds 1 to 9, then these. */
+enum { OPEN = 10, SIZE, AIR, LINK, LABEL, ROW, RECORD, STATION, PACKET, KINDS };
+
+/* Open has n as a and start as b. */
+struct call {
+    int kind;
+    size_t a, b;
+};
+
+static bool shows(int kind)
+{
+    return kind == SRP_EVENT_TRACE || kind > OPEN;
+}
+
+/* The bytes that a call writes to its output slice. */
+static size_t shown_bytes(int kind)
+{
+    switch (kind) {
+    case LABEL: return SRP_LABEL_BYTES;
+    case ROW: return SRP_ROW_BYTES;
+    case RECORD: return SRP_RECORD_BYTES;
+    case STATION: return SRP_STATION_BYTES;
+    case PACKET: return SRP_PACKET_BYTES;
+    default: return 0;
+    }
+}
+
+static uint64_t make(struct call c, uint8_t *memory, size_t length, uint8_t *out, size_t out_length)
+{
+    switch (c.kind) {
+    case SRP_EVENT_UP: return srp_up(memory, length, c.a, c.b);
+    case SRP_EVENT_DOWN: return srp_down(memory, length, c.a, c.b);
+    case SRP_EVENT_SOLICIT: return srp_solicit(memory, length, c.a, c.b);
+    case SRP_EVENT_GIVE_UP: return srp_give_up(memory, length, c.a);
+    case SRP_EVENT_EXPIRE: return srp_expire(memory, length, c.a, c.b);
+    case SRP_EVENT_DELIVER: return srp_deliver(memory, length, c.a);
+    case SRP_EVENT_LOSE: return srp_lose(memory, length, c.a);
+    case SRP_EVENT_DUPLICATE: return srp_duplicate(memory, length, c.a);
+    case SRP_EVENT_TRACE: return srp_trace(memory, length, c.a, c.b);
+    case OPEN: return srp_open(memory, length, c.a, c.b);
+    case SIZE: return srp_size(memory, length);
+    case AIR: return srp_air(memory, length);
+    case LINK: return srp_link(memory, length, c.a, c.b);
+    case LABEL: return srp_label(memory, length, c.a, c.b, out, out_length);
+    case ROW: return srp_row(memory, length, c.a, c.b, out, out_length);
+    case RECORD: return srp_record(memory, length, c.a, c.b, out, out_length);
+    case STATION: return srp_station(memory, length, c.a, out, out_length);
+    default: return srp_packet(memory, length, c.a, out, out_length);
+    }
+}
+
+/* A network in a slice that is longer than the layout, an output slice, and what both held before the last call. */
+#define GUARD 64
+#define LENT (SRP_LENGTH + GUARD)
+#define OUT 100
+
+struct desk {
+    uint8_t memory[LENT], before[LENT];
+    uint8_t out[OUT], out_before[OUT];
+};
+
+static uint64_t call_on(struct desk *d, struct call c, size_t length, size_t out_length)
+{
+    memcpy(d->before, d->memory, LENT);
+    memcpy(d->out_before, d->out, OUT);
+    return make(c, d->memory, length, d->out, out_length);
+}
+
+static struct desk *opened(size_t n, uint64_t start)
+{
+    struct desk *d = allocated(sizeof *d);
+
+    memset(d->memory, 0xa5, LENT);
+    memset(d->out, 0x5a, OUT);
+    CHECK_EQ(call_on(d, (struct call){OPEN, n, start}, LENT, OUT), SRP_DONE);
+    CHECK_SAME(d->memory + SRP_LENGTH, d->before + SRP_LENGTH, GUARD);
+    return d;
+}
+
+/* A call that is turned down: the number, no count, and every byte as it was. */
+static void check_refused(int line, struct desk *d, struct call c, size_t length, size_t out_length, uint32_t number)
+{
+    check_eq(line, "the refusal", call_on(d, c, length, out_length), number);
+    check_same(line, "memory", d->memory, d->before, LENT);
+    check_same(line, "out", d->out, d->out_before, OUT);
+}
+
+#define CHECK_REFUSED(d, number, ...) check_refused(__LINE__, (d), (struct call){__VA_ARGS__}, LENT, OUT, (number))
+
+/* ---- The layout, from docs/LAYOUT.md -------------------------------------------------------- */
+
+static bool is_flag(uint8_t byte)
+{
+    return byte < 2;
+}
+
+static bool is_label(const uint8_t *at)
+{
+    uint64_t s = srp_read8(at + SRP_LABEL_S);
+    uint32_t m = srp_read4(at + SRP_LABEL_M), d = srp_read4(at + SRP_LABEL_D);
+
+    return s == 0 ? m == 1 && d == 1 : m < d;
+}
+
+static bool is_own_label(const uint8_t *at)
+{
+    return is_label(at) && srp_read4(at + SRP_LABEL_M) == 0 && srp_read4(at + SRP_LABEL_D) == 1;
+}
+
+static bool is_row(const uint8_t *row, unsigned n, unsigned i)
+{
+    const uint8_t *entries = row + SRP_ROW_ENTRIES;
+
+    if (row[SRP_ROW_COUNT] > SRP_MAX_SUCCESSORS)
+        return false;
+    for (unsigned k = 0; k < row[SRP_ROW_COUNT]; k++) {
+        uint8_t station = entries[SRP_ENTRY_BYTES * k + SRP_ENTRY_STATION];
+
+        if (station >= n || station == i || !is_label(entries + SRP_ENTRY_BYTES * k + SRP_ENTRY_LABEL))
+            return false;
+        for (unsigned j = 0; j < k; j++)
+            if (entries[SRP_ENTRY_BYTES * j + SRP_ENTRY_STATION] == station)
+                return false;
+    }
+    return true;
+}
+
+static bool is_record(const uint8_t *at, unsigned n)
+{
+    return at[SRP_RECORD_DESTINATION] < n && at[SRP_RECORD_LAST_HOP] < n && is_label(at + SRP_RECORD_CACHED) && is_flag(at[SRP_RECORD_PASSED]);
+}
+
+static bool is_packet(const uint8_t *at, unsigned n)
+{
+    static const uint8_t zeros[SRP_PACKET_BYTES];
+    unsigned mask = srp_read2(at + SRP_PACKET_MASK);
+
+    if (at[SRP_PACKET_SENDER] >= n || at[SRP_PACKET_RECEIVER] >= n || at[SRP_PACKET_SENDER] == at[SRP_PACKET_RECEIVER])
+        return false;
+    if (at[SRP_PACKET_KIND] == SRP_ERROR)
+        return mask >> n == 0 && memcmp(at + SRP_PACKET_SOURCE, zeros, SRP_PACKET_MASK - SRP_PACKET_SOURCE) == 0;
+    if (at[SRP_PACKET_KIND] != SRP_REQUEST && at[SRP_PACKET_KIND] != SRP_REPLY)
+        return false;
+    if (!is_flag(at[SRP_PACKET_RESET]) || (at[SRP_PACKET_KIND] == SRP_REPLY && at[SRP_PACKET_RESET]))
+        return false;
+    return at[SRP_PACKET_SOURCE] < n && srp_read4(at + SRP_PACKET_NUMBER) > 0 && at[SRP_PACKET_DESTINATION] < n
+        && is_label(at + SRP_PACKET_LABEL) && mask == 0;
+}
+
+/* What station i holds for station t: label, row, record and link. */
+static bool is_pair(const uint8_t *bytes, unsigned n, unsigned i, unsigned t)
+{
+    const uint8_t *row = bytes + SRP_ROW_AT(i, t);
+
+    if (i == t)
+        return is_own_label(bytes + SRP_LABEL_AT(i, t)) && row[SRP_ROW_COUNT] == 0;
+    if (i < t && !is_flag(bytes[SRP_LINK_AT(i, t)]))
+        return false;
+    return is_label(bytes + SRP_LABEL_AT(i, t)) && is_row(row, n, i) && is_record(bytes + SRP_RECORD_AT(i, t), n);
+}
+
+/* Whether bytes have a meaning and are memory in range. */
+static bool in_range(const uint8_t *bytes)
+{
+    unsigned n = bytes[SRP_N_AT], air = bytes[SRP_AIR_AT];
+
+    if (n < SRP_MIN_STATIONS || n > SRP_MAX_STATIONS || air > SRP_MAX_PACKETS)
+        return false;
+    for (unsigned i = 0; i < n; i++) {
+        if (bytes[SRP_SOUGHT_AT + i] >= n || !is_flag(bytes[SRP_ACTIVE_AT + i]))
+            return false;
+        for (unsigned t = 0; t < n; t++)
+            if (!is_pair(bytes, n, i, t))
+                return false;
+    }
+    for (unsigned k = 0; k < air; k++)
+        if (!is_packet(bytes + SRP_PACKET_AT(k), n))
+            return false;
+    return true;
+}
+
+/* For each byte of memory in range: in use, past a count, or of no station. */
+enum { IN_USE, PAST, OF_NO_STATION };
+
+static void mark_row(const uint8_t *bytes, uint8_t *map, unsigned i, unsigned t)
+{
+    unsigned count = bytes[SRP_ROW_AT(i, t) + SRP_ROW_COUNT];
+
+    memset(map + SRP_ROW_AT(i, t) + SRP_ROW_ENTRIES + SRP_ENTRY_BYTES * count, PAST, SRP_ENTRY_BYTES * (SRP_MAX_SUCCESSORS - count));
+}
+
+static void mark_pair(const uint8_t *bytes, uint8_t *map, unsigned i, unsigned t)
+{
+    unsigned n = bytes[SRP_N_AT];
+    bool stations = i < n && t < n;
+
+    if (!stations || i >= t)
+        map[SRP_LINK_AT(i, t)] = OF_NO_STATION;
+    if (!stations || i == t)
+        memset(map + SRP_RECORD_AT(i, t), OF_NO_STATION, SRP_RECORD_BYTES);
+    if (stations) {
+        mark_row(bytes, map, i, t);
+        return;
+    }
+    memset(map + SRP_LABEL_AT(i, t), OF_NO_STATION, SRP_LABEL_BYTES);
+    memset(map + SRP_ROW_AT(i, t), OF_NO_STATION, SRP_ROW_BYTES);
+}
+
+static void mark(const uint8_t *bytes, uint8_t *map)
+{
+    unsigned n = bytes[SRP_N_AT], air = bytes[SRP_AIR_AT];
+
+    memset(map, IN_USE, SRP_LENGTH);
+    for (unsigned i = 0; i < SRP_MAX_STATIONS; i++) {
+        if (i >= n) {
+            memset(map + SRP_NUMBER_AT(i), OF_NO_STATION, SRP_NUMBER_BYTES);
+            map[SRP_SOUGHT_AT + i] = OF_NO_STATION;
+            map[SRP_ACTIVE_AT + i] = OF_NO_STATION;
+        }
+        for (unsigned t = 0; t < SRP_MAX_STATIONS; t++)
+            mark_pair(bytes, map, i, t);
+    }
+    memset(map + SRP_PACKET_AT(air), PAST, SRP_PACKET_BYTES * (SRP_MAX_PACKETS - air));
+}
+
+/* What a call writes back: zeros past each count, and flags that are 0 unless they were 1. */
+static void settle(uint8_t *bytes)
+{
+    unsigned air = bytes[SRP_AIR_AT];
+
+    for (unsigned i = 0; i < SRP_MAX_STATIONS; i++)
+        bytes[SRP_ACTIVE_AT + i] = bytes[SRP_ACTIVE_AT + i] == 1;
+    for (unsigned place = 0; place < SRP_PLACE(SRP_MAX_STATIONS, 0); place++) {
+        uint8_t *row = bytes + SRP_ROW_AT(0, place);
+        uint8_t *passed = bytes + SRP_RECORD_AT(0, place) + SRP_RECORD_PASSED;
+
+        bytes[SRP_LINKS_AT + place] = bytes[SRP_LINKS_AT + place] == 1;
+        *passed = *passed == 1;
+        for (unsigned k = row[SRP_ROW_COUNT]; k < SRP_MAX_SUCCESSORS; k++)
+            memset(row + SRP_ROW_ENTRIES + SRP_ENTRY_BYTES * k, 0, SRP_ENTRY_BYTES);
+    }
+    if (air < SRP_MAX_PACKETS)
+        memset(bytes + SRP_PACKET_AT(air), 0, SRP_PACKET_BYTES * (SRP_MAX_PACKETS - air));
+}
+
+/* The bytes of a fresh network. */
+static void fresh(uint8_t *bytes, unsigned n, uint64_t start)
+{
+    memset(bytes, 0, SRP_LENGTH);
+    bytes[SRP_N_AT] = (uint8_t)n;
+    for (unsigned place = 0; place < SRP_PLACE(SRP_MAX_STATIONS, 0); place++) {
+        put_label(bytes + SRP_LABEL_AT(0, place), 0, 1, 1);
+        put_label(bytes + SRP_RECORD_AT(0, place) + SRP_RECORD_CACHED, 0, 1, 1);
+    }
+    for (unsigned i = 0; i < n; i++)
+        put_label(bytes + SRP_LABEL_AT(i, i), start, 0, 1);
+}
+
+/* What an accepted call leaves: memory in range with nothing in its free places, and the bytes past the layout. */
+static void check_left(int line, struct desk *d)
+{
+    uint8_t *settled = copied(d->memory, SRP_LENGTH);
+
+    settle(settled);
+    check_eq(line, "in range", in_range(d->memory), true);
+    check_eq(line, "srp_size", srp_size(d->memory, SRP_LENGTH), result(SRP_DONE, d->memory[SRP_N_AT]));
+    check_same(line, "free places", d->memory, settled, SRP_LENGTH);
+    check_same(line, "bytes past the layout", d->memory + SRP_LENGTH, d->before + SRP_LENGTH, GUARD);
+    free(settled);
+}
+
+/* ---- Lists of calls ------------------------------------------------------------------------- */
+
+/* A call with its answer, its count (packets sent; hops of a Trace) and the packets in the air after it. */
+struct step {
+    struct call call;
+    uint32_t answer, count, air;
+};
+
+static void play(struct desk *d, const struct step *steps, size_t from, size_t to)
+{
+    for (size_t k = from; k < to; k++) {
+        unsigned long failures = tally.failures;
+
+        CHECK_EQ(call_on(d, steps[k].call, LENT, OUT), result(steps[k].answer, steps[k].count));
+        CHECK_EQ(srp_air(d->memory, LENT), result(SRP_DONE, steps[k].air));
+        if (shows(steps[k].call.kind))
+            CHECK_SAME(d->memory, d->before, LENT);
+        check_left(__LINE__, d);
+        if (tally.failures != failures)
+            fprintf(stderr, "    at step %zu\n", k);
+    }
+}
+
+/* 01's example, as it is printed there. */
+#define EXAMPLE 9
+static const struct step example[EXAMPLE] = {
+    {{SRP_EVENT_UP, 0, 1}, 0, 0, 0},
+    {{SRP_EVENT_UP, 1, 2}, 0, 0, 0},
+    {{SRP_EVENT_SOLICIT, 2, 0}, 0, 1, 1},
+    {{SRP_EVENT_DELIVER, 0, 0}, 103, 2, 2},
+    {{SRP_EVENT_DELIVER, 0, 0}, 102, 1, 2},
+    {{SRP_EVENT_LOSE, 0, 0}, 0, 0, 1},
+    {{SRP_EVENT_DELIVER, 0, 0}, 115, 1, 1},
+    {{SRP_EVENT_DELIVER, 0, 0}, 115, 0, 0},
+    {{SRP_EVENT_TRACE, 2, 0}, 131, 2, 0},
+};
+
+static struct desk *example_after(size_t steps)
+{
+    struct desk *d = opened(3, 1);
+
+    play(d, example, 0, steps);
+    return d;
+}
+
+/*
+ * Four stations in a square, 0 to 1 and 2, and these to 3. Station 3 gets two successors for 0. Then the link of 0 and 1 goes down, and the
+ * air holds an error, three requests and a reply; 2 and 3 are active.
+ */
+#define SQUARE 21
+static const struct step square[SQUARE] = {
+    {{SRP_EVENT_UP, 0, 1}, 0, 0, 0},
+    {{SRP_EVENT_UP, 0, 2}, 0, 0, 0},
+    {{SRP_EVENT_UP, 3, 1}, 0, 0, 0},
+    {{SRP_EVENT_UP, 2, 3}, 0, 0, 0},
+    {{SRP_EVENT_SOLICIT, 1, 0}, 0, 2, 2},
+    {{SRP_EVENT_DELIVER, 0, 0}, 102, 1, 2},
+    {{SRP_EVENT_LOSE, 0, 0}, 0, 0, 1},
+    {{SRP_EVENT_DELIVER, 0, 0}, 115, 0, 0},
+    {{SRP_EVENT_SOLICIT, 2, 0}, 0, 2, 2},
+    {{SRP_EVENT_DELIVER, 0, 0}, 102, 1, 2},
+    {{SRP_EVENT_LOSE, 0, 0}, 0, 0, 1},
+    {{SRP_EVENT_DELIVER, 0, 0}, 115, 0, 0},
+    {{SRP_EVENT_SOLICIT, 3, 0}, 0, 2, 2},
+    {{SRP_EVENT_DELIVER, 0, 0}, 102, 1, 2},
+    {{SRP_EVENT_DELIVER, 0, 0}, 102, 1, 2},
+    {{SRP_EVENT_DELIVER, 0, 0}, 115, 0, 1},
+    {{SRP_EVENT_DELIVER, 0, 0}, 115, 0, 0},
+    {{SRP_EVENT_DOWN, 0, 1}, 0, 1, 1},
+    {{SRP_EVENT_SOLICIT, 2, 1}, 0, 2, 3},
+    {{SRP_EVENT_SOLICIT, 3, 2}, 0, 2, 5},
+    {{SRP_EVENT_DELIVER, 4, 0}, 102, 1, 5},
+};
+
+static struct desk *square_after(size_t steps)
+{
+    struct desk *d = opened(4, 1);
+
+    play(d, square, 0, steps);
+    return d;
+}
+
+/* ---- 01's example --------------------------------------------------------------------------- */
+
+/* What the calls show is what stands in the bytes. */
+static void check_bytes_shown(struct desk *d, struct call c, size_t at)
+{
+    size_t bytes = shown_bytes(c.kind);
+
+    memset(d->out, 0x5a, OUT);
+    CHECK_EQ(call_on(d, c, LENT, OUT), result(SRP_DONE, bytes));
+    CHECK_SAME(d->out, d->memory + at, bytes);
+    CHECK_SAME(d->out + bytes, d->out_before + bytes, OUT - bytes);
+    CHECK_SAME(d->memory, d->before, LENT);
+}
+
+static void check_pair_shown(struct desk *d, unsigned i, unsigned t)
+{
+    check_bytes_shown(d, (struct call){LABEL, i, t}, SRP_LABEL_AT(i, t));
+    check_bytes_shown(d, (struct call){ROW, i, t}, SRP_ROW_AT(i, t));
+    if (i == t)
+        return;
+    check_bytes_shown(d, (struct call){RECORD, i, t}, SRP_RECORD_AT(i, t));
+    CHECK_EQ(srp_link(d->memory, LENT, i, t), result(SRP_DONE, d->memory[i < t ? SRP_LINK_AT(i, t) : SRP_LINK_AT(t, i)]));
+}
+
+static void check_station_shown(struct desk *d, unsigned i)
+{
+    CHECK_EQ(call_on(d, (struct call){STATION, i, 0}, LENT, OUT), result(SRP_DONE, SRP_STATION_BYTES));
+    CHECK_EQ(srp_read4(d->out + SRP_STATION_NUMBER), srp_read4(d->memory + SRP_NUMBER_AT(i)));
+    CHECK_EQ(d->out[SRP_STATION_SOUGHT], d->memory[SRP_SOUGHT_AT + i]);
+    CHECK_EQ(d->out[SRP_STATION_ACTIVE], d->memory[SRP_ACTIVE_AT + i]);
+    CHECK_SAME(d->out + SRP_STATION_BYTES, d->out_before + SRP_STATION_BYTES, OUT - SRP_STATION_BYTES);
+    CHECK_SAME(d->memory, d->before, LENT);
+}
+
+static void check_shown(struct desk *d)
+{
+    unsigned n = d->memory[SRP_N_AT], air = d->memory[SRP_AIR_AT];
+
+    CHECK_EQ(srp_size(d->memory, LENT), result(SRP_DONE, n));
+    CHECK_EQ(srp_air(d->memory, LENT), result(SRP_DONE, air));
+    for (unsigned i = 0; i < n; i++) {
+        check_station_shown(d, i);
+        for (unsigned t = 0; t < n; t++)
+            check_pair_shown(d, i, t);
+    }
+    for (unsigned k = 0; k < air; k++)
+        check_bytes_shown(d, (struct call){PACKET, k, 0}, SRP_PACKET_AT(k));
+}
+
+/* A request or a reply of the example: station 2 seeks 0 with its first request. */
+#define CHECK_PACKET(d, k, sender, receiver, kind, s, m, denominator)                                                                    \
+    do {                                                                                                                                 \
+        CHECK_EQ(srp_packet((d)->memory, LENT, (k), (d)->out, OUT), result(SRP_DONE, SRP_PACKET_BYTES));                                 \
+        CHECK_EQ((d)->out[SRP_PACKET_SENDER], (sender));                                                                                 \
+        CHECK_EQ((d)->out[SRP_PACKET_RECEIVER], (receiver));                                                                             \
+        CHECK_EQ((d)->out[SRP_PACKET_KIND], (kind));                                                                                     \
+        CHECK_EQ((d)->out[SRP_PACKET_SOURCE], 2);                                                                                        \
+        CHECK_EQ(srp_read4((d)->out + SRP_PACKET_NUMBER), 1);                                                                            \
+        CHECK_EQ((d)->out[SRP_PACKET_DESTINATION], 0);                                                                                   \
+        CHECK_LABEL((d)->out + SRP_PACKET_LABEL, (s), (m), (denominator));                                                               \
+        CHECK_EQ((d)->out[SRP_PACKET_RESET], 0);                                                                                         \
+        CHECK_EQ(srp_read2((d)->out + SRP_PACKET_MASK), 0);                                                                              \
+    } while (0)
+
+/* A record for source 2 of the example. */
+#define CHECK_RECORD(d, i, number, last_hop, passed)                                                                                     \
+    do {                                                                                                                                 \
+        CHECK_EQ(srp_record((d)->memory, LENT, (i), 2, (d)->out, OUT), result(SRP_DONE, SRP_RECORD_BYTES));                              \
+        CHECK_EQ(srp_read4((d)->out + SRP_RECORD_NUMBER), (number));                                                                     \
+        CHECK_EQ((d)->out[SRP_RECORD_DESTINATION], 0);                                                                                   \
+        CHECK_LABEL((d)->out + SRP_RECORD_CACHED, 0, 1, 1);                                                                              \
+        CHECK_EQ((d)->out[SRP_RECORD_LAST_HOP], (last_hop));                                                                             \
+        CHECK_EQ((d)->out[SRP_RECORD_PASSED], (passed));                                                                                 \
+    } while (0)
+
+#define CHECK_STATION(d, i, number, sought, active)                                                                                      \
+    do {                                                                                                                                 \
+        CHECK_EQ(srp_station((d)->memory, LENT, (i), (d)->out, OUT), result(SRP_DONE, SRP_STATION_BYTES));                               \
+        CHECK_EQ(srp_read4((d)->out + SRP_STATION_NUMBER), (number));                                                                    \
+        CHECK_EQ((d)->out[SRP_STATION_SOUGHT], (sought));                                                                                \
+        CHECK_EQ((d)->out[SRP_STATION_ACTIVE], (active));                                                                                \
+    } while (0)
+
+/* A station's label for 0, and its row: one successor with the label that it advertised. */
+#define CHECK_ROUTE(d, i, m, denominator, successor, advertised_m, advertised_d)                                                         \
+    do {                                                                                                                                 \
+        CHECK_EQ(srp_label((d)->memory, LENT, (i), 0, (d)->out, OUT), result(SRP_DONE, SRP_LABEL_BYTES));                                \
+        CHECK_LABEL((d)->out, 1, (m), (denominator));                                                                                    \
+        CHECK_EQ(srp_row((d)->memory, LENT, (i), 0, (d)->out, OUT), result(SRP_DONE, SRP_ROW_BYTES));                                    \
+        CHECK_EQ((d)->out[SRP_ROW_COUNT], 1);                                                                                            \
+        CHECK_EQ((d)->out[SRP_ROW_ENTRIES + SRP_ENTRY_STATION], (successor));                                                            \
+        CHECK_LABEL((d)->out + SRP_ROW_ENTRIES + SRP_ENTRY_LABEL, 1, (advertised_m), (advertised_d));                                    \
+    } while (0)
+
+/* What the example has of links after its first two events. */
+static void check_example_links(struct desk *d)
+{
+    CHECK_EQ(srp_link(d->memory, LENT, 0, 1), result(SRP_DONE, 1));
+    CHECK_EQ(srp_link(d->memory, LENT, 1, 0), result(SRP_DONE, 1));
+    CHECK_EQ(srp_link(d->memory, LENT, 2, 1), result(SRP_DONE, 1));
+    CHECK_EQ(srp_link(d->memory, LENT, 0, 2), result(SRP_DONE, 0));
+    CHECK_EQ(srp_link(d->memory, LENT, 2, 0), result(SRP_DONE, 0));
+}
+
+static void check_example_end(struct desk *d)
+{
+    CHECK_ROUTE(d, 1, 1, 2, 0, 0, 1);
+    CHECK_ROUTE(d, 2, 2, 3, 1, 1, 2);
+    CHECK_STATION(d, 2, 1, 0, 0);
+    CHECK_EQ(srp_label(d->memory, LENT, 0, 0, d->out, OUT), result(SRP_DONE, SRP_LABEL_BYTES));
+    CHECK_LABEL(d->out, 1, 0, 1);
+    CHECK_EQ(srp_label(d->memory, LENT, 0, 2, d->out, OUT), result(SRP_DONE, SRP_LABEL_BYTES));
+    CHECK_LABEL(d->out, 0, 1, 1);
+    CHECK_EQ(srp_row(d->memory, LENT, 0, 2, d->out, OUT), result(SRP_DONE, SRP_ROW_BYTES));
+    CHECK_EQ(d->out[SRP_ROW_COUNT], 0);
+    CHECK_EQ(srp_trace(d->memory, LENT, 1, 0), result(SRP_TRACE_ARRIVED, 1));
+    CHECK_EQ(srp_trace(d->memory, LENT, 0, 2), result(SRP_TRACE_NO_SUCCESSOR, 0));
+}
+
+static void test_example(void)
+{
+    struct desk *d = opened(3, 1);
+
+    CHECK_EQ(srp_size(d->memory, LENT), result(SRP_DONE, 3));
+    CHECK_EQ(srp_air(d->memory, LENT), result(SRP_DONE, 0));
+    CHECK_EQ(srp_link(d->memory, LENT, 0, 1), result(SRP_DONE, 0));
+    CHECK_STATION(d, 2, 0, 0, 0);
+    CHECK_RECORD(d, 1, 0, 0, 0);
+    play(d, example, 0, 3);
+    check_example_links(d);
+    CHECK_STATION(d, 2, 1, 0, 1);
+    CHECK_PACKET(d, 0, 2, 1, SRP_REQUEST, 0, 1, 1);
+    play(d, example, 3, 4);
+    CHECK_RECORD(d, 1, 1, 2, 0);
+    CHECK_PACKET(d, 0, 1, 0, SRP_REQUEST, 0, 1, 1);
+    CHECK_PACKET(d, 1, 1, 2, SRP_REQUEST, 0, 1, 1);
+    play(d, example, 4, 5);
+    CHECK_RECORD(d, 0, 1, 1, 1);
+    CHECK_PACKET(d, 0, 1, 2, SRP_REQUEST, 0, 1, 1);
+    CHECK_PACKET(d, 1, 0, 1, SRP_REPLY, 1, 0, 1);
+    play(d, example, 5, 7);
+    CHECK_RECORD(d, 1, 1, 2, 1);
+    CHECK_PACKET(d, 0, 1, 2, SRP_REPLY, 1, 1, 2);
+    play(d, example, 7, EXAMPLE);
+    check_example_end(d);
+    check_shown(d);
+    free(d);
+}
+
+/* The same in a slice of exactly the layout's length: the same bytes. */
+static void test_exact_slice(void)
+{
+    struct desk *d = example_after(EXAMPLE);
+    uint8_t *memory = allocated(SRP_LENGTH);
+
+    CHECK_EQ(srp_open(memory, SRP_LENGTH, 3, 1), SRP_DONE);
+    for (size_t k = 0; k < EXAMPLE; k++)
+        CHECK_EQ(make(example[k].call, memory, SRP_LENGTH, d->out, OUT), result(example[k].answer, example[k].count));
+    CHECK_SAME(memory, d->memory, SRP_LENGTH);
+    free(memory);
+    free(d);
+}
+
+/* The square: two successors, and packets of every kind in the air. */
+static void test_square(void)
+{
+    struct desk *d = square_after(17);
+
+    check_shown(d);
+    CHECK_EQ(srp_row(d->memory, LENT, 3, 0, d->out, OUT), result(SRP_DONE, SRP_ROW_BYTES));
+    CHECK_EQ(d->out[SRP_ROW_COUNT], 2);
+    CHECK_EQ(d->out[SRP_ROW_ENTRIES + SRP_ENTRY_STATION], 1);
+    CHECK_EQ(d->out[SRP_ROW_ENTRIES + SRP_ENTRY_BYTES + SRP_ENTRY_STATION], 2);
+    CHECK_LABEL(d->out + SRP_ROW_ENTRIES + SRP_ENTRY_BYTES + SRP_ENTRY_LABEL, 1, 1, 2);
+    play(d, square, 17, SQUARE);
+    check_shown(d);
+    CHECK_EQ(srp_packet(d->memory, LENT, 0, d->out, OUT), result(SRP_DONE, SRP_PACKET_BYTES));
+    CHECK_EQ(d->out[SRP_PACKET_SENDER], 1);
+    CHECK_EQ(d->out[SRP_PACKET_RECEIVER], 3);
+    CHECK_EQ(d->out[SRP_PACKET_KIND], SRP_ERROR);
+    CHECK_EQ(srp_read2(d->out + SRP_PACKET_MASK), 1);
+    CHECK_EQ(d->memory[SRP_PACKET_AT(1) + SRP_PACKET_KIND], SRP_REQUEST);
+    CHECK_EQ(d->memory[SRP_PACKET_AT(4) + SRP_PACKET_KIND], SRP_REPLY);
+    free(d);
+}
+
+/* Give up, Expire, Duplicate, and an error that is delivered. */
+static void test_other_calls(void)
+{
+    static const struct step steps[] = {
+        {{SRP_EVENT_GIVE_UP, 3, 0}, 0, 0, 5},
+        {{SRP_EVENT_DUPLICATE, 0, 0}, 0, 0, 6},
+        {{SRP_EVENT_DELIVER, 0, 0}, 122, 0, 5}, /* 3 has another successor */
+        {{SRP_EVENT_DELIVER, 4, 0}, 121, 0, 4}, /* the copy finds nothing to remove */
+        {{SRP_EVENT_TRACE, 3, 0}, 131, 2, 4},
+        {{SRP_EVENT_EXPIRE, 3, 0}, 0, 0, 4},
+        {{SRP_EVENT_TRACE, 3, 0}, 132, 0, 4},
+        {{SRP_EVENT_DELIVER, 3, 0}, 115, 0, 3}, /* a reply after giving up: it is taken */
+        {{SRP_EVENT_TRACE, 3, 2}, 131, 1, 3},
+    };
+    struct desk *d = square_after(SQUARE);
+
+    play(d, steps, 0, sizeof steps / sizeof *steps);
+    check_shown(d);
+    free(d);
+}
+
+/* Fresh memory, whatever the slice held before; and a slice that nothing was ever written to. */
+static void test_open(void)
+{
+    uint8_t *wanted = allocated(SRP_LENGTH);
+    uint8_t *memory = allocated(SRP_LENGTH);
+
+    CHECK_EQ(srp_open(memory, SRP_LENGTH, 2, 1), SRP_DONE);
+    fresh(wanted, 2, 1);
+    CHECK_SAME(memory, wanted, SRP_LENGTH);
+    for (unsigned n = SRP_MIN_STATIONS; n <= SRP_MAX_STATIONS; n++) {
+        uint64_t start = n % 2 ? UINT64_MAX : 0x0123456789abcdefu;
+        struct desk *d = opened(n, start);
+
+        fresh(wanted, n, start);
+        CHECK_SAME(d->memory, wanted, SRP_LENGTH);
+        check_left(__LINE__, d);
+        if (n == 2 || n == SRP_MAX_STATIONS)
+            check_shown(d);
+        free(d);
+    }
+    free(memory);
+    free(wanted);
+}
+
+/* Answers that no list of calls here reaches: bytes are written by hand. */
+static void test_hand_written(void)
+{
+    struct desk *d = example_after(EXAMPLE);
+
+    /* A circle, 2 to 1 to 2. */
+    d->memory[SRP_ROW_AT(1, 0) + SRP_ROW_ENTRIES + SRP_ENTRY_STATION] = 2;
+    CHECK_EQ(srp_trace(d->memory, LENT, 2, 0), result(SRP_TRACE_ENDLESS, 2));
+    free(d);
+
+    /* A reply where the cached label is not above it. */
+    d = example_after(6);
+    put_label(d->memory + SRP_RECORD_AT(1, 2) + SRP_RECORD_CACHED, 1, 0, 1);
+    CHECK_EQ(call_on(d, (struct call){SRP_EVENT_DELIVER, 0, 0}, LENT, OUT), result(SRP_CACHED_NOT_ABOVE, 0));
+    check_left(__LINE__, d);
+    free(d);
+
+    /* A request with the reset bit: the sequence number rises, or cannot. */
+    d = example_after(4);
+    d->memory[SRP_PACKET_AT(0) + SRP_PACKET_RESET] = 1;
+    put_label(d->memory + SRP_PACKET_AT(0) + SRP_PACKET_LABEL, UINT64_MAX - 1, 0, 1);
+    CHECK_EQ(call_on(d, (struct call){SRP_EVENT_DELIVER, 0, 0}, LENT, OUT), result(SRP_REQUEST_ANSWERED, 1));
+    CHECK_LABEL(d->memory + SRP_LABEL_AT(0, 0), UINT64_MAX, 0, 1);
+    CHECK_PACKET(d, 1, 0, 1, SRP_REPLY, UINT64_MAX, 0, 1);
+    free(d);
+    d = example_after(4);
+    d->memory[SRP_PACKET_AT(0) + SRP_PACKET_RESET] = 1;
+    put_label(d->memory + SRP_PACKET_AT(0) + SRP_PACKET_LABEL, UINT64_MAX, 0, 1);
+    CHECK_EQ(call_on(d, (struct call){SRP_EVENT_DELIVER, 0, 0}, LENT, OUT), result(SRP_REQUEST_NOT_ANSWERED, 0));
+    CHECK_LABEL(d->memory + SRP_LABEL_AT(0, 0), 1, 0, 1);
+    CHECK_LABEL(d->memory + SRP_RECORD_AT(0, 2) + SRP_RECORD_CACHED, UINT64_MAX, 0, 1);
+    CHECK_EQ(d->memory[SRP_RECORD_AT(0, 2) + SRP_RECORD_PASSED], 0);
+    check_left(__LINE__, d);
+    free(d);
+}
+
+/* ---- New label ------------------------------------------------------------------------------ */
+
+struct label {
+    uint64_t s;
+    uint32_t m, d;
+};
+
+static uint64_t new_label(struct label own, struct label cached, struct label advertised)
+{
+    return srp_new_label(own.s, own.m, own.d, cached.s, cached.m, cached.d, advertised.s, advertised.m, advertised.d);
+}
+
+/* Own, cached and advertised label; the low half (m, or the number) and the high half (d, or 0). */
+static void test_new_label(void)
+{
+    static const struct {
+        struct label own, cached, advertised;
+        uint32_t low, high;
+    } cases[] = {
+        {{0, 1, 1}, {0, 1, 1}, {1, 0, 1}, 1, 2},
+        {{1, 2, 3}, {1, 2, 3}, {1, 1, 2}, 3, 5},
+        {{0, 1, 1}, {1, 2, 3}, {1, 3, 5}, 5, 8},
+        {{1, 2, 3}, {1, 3, 4}, {1, 5, 8}, 2, 3},
+        {{1, 1, 2}, {0, 1, 1}, {2, 0, 1}, 1, 2},
+        {{1, 1, 2}, {0, 1, 1}, {1, 2, 4}, SRP_OWN_NOT_ABOVE, 0},
+        {{2, 1, 2}, {0, 1, 1}, {1, 0, 1}, SRP_OWN_NOT_ABOVE, 0},
+        {{0, 1, 1}, {2, 1, 2}, {1, 0, 1}, SRP_CACHED_NOT_ABOVE, 0},
+        {{0, 1, 1}, {0, 1, 1}, {1, 1, 4294967294u}, 2, 4294967295u},
+        {{0, 1, 1}, {0, 1, 1}, {1, 1, 4294967295u}, SRP_DOES_NOT_FIT, 0},
+        {{1, 2, 3}, {1, 2, 3}, {1, 1, 4294967292u}, 3, 4294967295u},
+        {{1, 2, 3}, {1, 2, 3}, {1, 1, 4294967293u}, SRP_DOES_NOT_FIT, 0},
+        /* Out of range comes first, for each of the three. */
+        {{1, 1, 1}, {0, 1, 1}, {1, 0, 1}, SRP_OUT_OF_RANGE, 0},
+        {{0, 1, 2}, {0, 1, 1}, {1, 0, 1}, SRP_OUT_OF_RANGE, 0},
+        {{0, 0, 1}, {0, 1, 1}, {1, 0, 1}, SRP_OUT_OF_RANGE, 0},
+        {{0, 1, 1}, {1, 0, 0}, {1, 0, 1}, SRP_OUT_OF_RANGE, 0},
+        {{0, 1, 1}, {0, 1, 1}, {1, 3, 2}, SRP_OUT_OF_RANGE, 0},
+        {{2, 1, 2}, {2, 1, 2}, {0, 2, 2}, SRP_OUT_OF_RANGE, 0},
+        /* The own label before the cached one. */
+        {{2, 1, 2}, {2, 1, 2}, {1, 0, 1}, SRP_OWN_NOT_ABOVE, 0},
+        /* All 64 bits of s, and fractions whose products do not fit 32 bits. */
+        {{UINT64_MAX - 1, 1, 2}, {0, 1, 1}, {UINT64_MAX, 0, 1}, 1, 2},
+        {{1, 65536, 65537}, {0, 1, 1}, {1, 1, 65536}, 65536, 65537},
+        {{1, 1, 65536}, {0, 1, 1}, {1, 65536, 65537}, SRP_OWN_NOT_ABOVE, 0},
+        {{1, 4294967294u, 4294967295u}, {0, 1, 1}, {1, 4294967293u, 4294967294u}, 4294967294u, 4294967295u},
+    };
+
+    for (size_t k = 0; k < sizeof cases / sizeof *cases; k++) {
+        unsigned long failures = tally.failures;
+
+        CHECK_EQ(new_label(cases[k].own, cases[k].cached, cases[k].advertised), result(cases[k].low, cases[k].high));
+        if (tally.failures != failures)
+            fprintf(stderr, "    at case %zu\n", k);
+    }
+}
+
+/*
+ * The upper of two labels as the cached one, the lower as the advertised one. (0, 1/1) stands for the fraction 1/1 with every s: no label
+ * has that fraction otherwise, and V + 1/1 is the split with it.
+ */
+static uint64_t split(struct label x, struct label y)
+{
+    const struct label unassigned = {0, 1, 1};
+    bool x_is_lower = (uint64_t)x.m * y.d < (uint64_t)y.m * x.d;
+
+    return x_is_lower ? new_label(unassigned, y, x) : new_label(unassigned, x, y);
+}
+
+/* From 0/1 and 1/1 the newest two are split each time, 45 times; the 46th does not fit. */
+static void test_splits(void)
+{
+    struct label older = {1, 0, 1}, newer = {0, 1, 1};
+
+    for (unsigned k = 0; k < 45; k++) {
+        uint64_t r = split(older, newer);
+
+        CHECK_EQ(SRP_LABEL_TAKEN(r), true);
+        CHECK_EQ(SRP_TAKEN_M(r), (uint64_t)older.m + newer.m);
+        CHECK_EQ(SRP_TAKEN_D(r), (uint64_t)older.d + newer.d);
+        older = newer;
+        newer = (struct label){1, SRP_TAKEN_M(r), SRP_TAKEN_D(r)};
+    }
+    CHECK_EQ(newer.d, 2971215073u);
+    CHECK_EQ(split(older, newer), SRP_DOES_NOT_FIT);
+}
+
+/* ---- Scripts -------------------------------------------------------------------------------- */
+
+#define LONGEST SRP_SCRIPT_BYTES(SRP_MAX_EVENTS + 1)
+
+/* The bytes that hexadecimal digits say, and how many. Spaces are left out. */
+static size_t bytes_of(const char *digits, uint8_t *bytes)
+{
+    size_t length = 0;
+    unsigned byte;
+
+    for (; *digits; digits += 2) {
+        while (*digits == ' ')
+            digits++;
+        if (sscanf(digits, "%2x", &byte) != 1)
+            break;
+        bytes[length++] = (uint8_t)byte;
+    }
+    return length;
+}
+
+static const char example_script[] = "03 0900 0100000000000000 010103060607060609 0001 0102 0200 0000 0000 0000 0000 0000 0200";
+
+/* Reading into slices of these lengths, with bytes behind them that are looked at too. */
+static uint64_t read_script(int line, const uint8_t *script, size_t length, uint8_t *kinds, size_t kinds_length, uint8_t *operands,
+                            size_t operands_length)
+{
+    uint8_t *own = copied(script, length);
+    uint64_t r = srp_read_script(own, length, kinds, kinds_length, operands, operands_length);
+
+    check_same(line, "the script", own, script, length);
+    free(own);
+    return r;
+}
+
+static void check_reading_refused(int line, const uint8_t *script, size_t length, size_t kinds_length, size_t operands_length, uint32_t number)
+{
+    size_t kinds_size = kinds_length + GUARD, operands_size = operands_length + GUARD;
+    uint8_t *kinds = memset(allocated(kinds_size), 0xa5, kinds_size), *operands = memset(allocated(operands_size), 0x5a, operands_size);
+    uint8_t *kinds_before = copied(kinds, kinds_size), *operands_before = copied(operands, operands_size);
+
+    check_eq(line, "reading", read_script(line, script, length, kinds, kinds_length, operands, operands_length), number);
+    check_same(line, "kinds", kinds, kinds_before, kinds_size);
+    check_same(line, "operands", operands, operands_before, operands_size);
+    free(kinds);
+    free(operands);
+    free(kinds_before);
+    free(operands_before);
+}
+
+static void test_reading(void)
+{
+    uint8_t script[64], kinds[9 + GUARD], operands[18 + GUARD], guard[GUARD];
+    size_t length = bytes_of(example_script, script);
+    uint64_t r;
+
+    memset(guard, 0xa5, GUARD);
+    CHECK_EQ(length, SRP_SCRIPT_BYTES(EXAMPLE));
+    for (size_t more = 0; more <= GUARD; more += GUARD / 4) {
+        memset(kinds, 0xa5, sizeof kinds);
+        memset(operands, 0xa5, sizeof operands);
+        r = read_script(__LINE__, script, length, kinds, 9 + more, operands, 18 + more);
+        CHECK_EQ(SRP_ANSWER(r), SRP_DONE);
+        CHECK_EQ(SRP_EVENTS(r), EXAMPLE);
+        CHECK_EQ(SRP_STATIONS(r), 3);
+        CHECK_EQ(SRP_COUNT(r), 9 + 65536 * 3);
+        for (unsigned k = 0; k < EXAMPLE; k++) {
+            CHECK_EQ(kinds[k], (unsigned)example[k].call.kind);
+            CHECK_EQ(operands[2 * k], example[k].call.a);
+            CHECK_EQ(operands[2 * k + 1], example[k].call.b);
+        }
+        CHECK_SAME(kinds + 9, guard, GUARD);
+        CHECK_SAME(operands + 18, guard, GUARD);
+    }
+    CHECK_EQ(srp_script_start(script, length), 1);
+}
+
+static void test_script_start(void)
+{
+    uint8_t script[64];
+    size_t length = bytes_of("02 0000 ffffffffffffffff", script);
+
+    for (size_t less = 0; less < 11; less++) {
+        uint8_t *own = copied(script, less);
+
+        CHECK_EQ(srp_script_start(own, less), 0);
+        free(own);
+    }
+    CHECK_EQ(srp_script_start(script, length), UINT64_MAX);
+    length = bytes_of("02 0000 0102030405060708 aa", script);
+    CHECK_EQ(srp_script_start(script, length), 0x0807060504030201u);
+    length = bytes_of("00 0000 0000000000000000", script);
+    CHECK_EQ(srp_script_start(script, length), 0);
+}
+
+static void test_reading_refused(void)
+{
+    static const struct {
+        const char *digits;
+        size_t kinds_length, operands_length;
+        uint32_t number;
+    } cases[] = {
+        {"", 9, 18, SRP_SCRIPT_SHORT},
+        {"00", 0, 0, SRP_SCRIPT_SHORT},
+        {"02 0000 01000000000000", 9, 18, SRP_SCRIPT_SHORT},
+        {"02 0100 0100000000000000 01 00", 9, 18, SRP_SCRIPT_SIZE},
+        {"02 0000 0100000000000000 00", 9, 18, SRP_SCRIPT_SIZE},
+        {"00 0000 0000000000000000 00", 0, 0, SRP_SCRIPT_SIZE},
+        {"02 0110 0100000000000000", 9, 18, SRP_SCRIPT_SIZE},
+        {"00 0000 0100000000000000", 9, 18, SRP_OUT_OF_RANGE},
+        {"01 0000 0100000000000000", 9, 18, SRP_OUT_OF_RANGE},
+        {"11 0000 0100000000000000", 9, 18, SRP_OUT_OF_RANGE},
+        {"02 0000 0000000000000000", 9, 18, SRP_OUT_OF_RANGE},
+        {"02 0100 0000000000000000 00 0000", 0, 0, SRP_OUT_OF_RANGE},
+        {"02 0100 0100000000000000 00 0000", 9, 18, SRP_NO_EVENT},
+        {"02 0100 0100000000000000 0a 0000", 0, 0, SRP_NO_EVENT},
+        {"02 0100 0100000000000000 ff 0000", 9, 18, SRP_NO_EVENT},
+        {"02 0100 0100000000000000 04 0001", 9, 18, SRP_NO_EVENT},
+        {"02 0100 0100000000000000 06 0080", 9, 18, SRP_NO_EVENT},
+        {"02 0100 0100000000000000 07 00ff", 9, 18, SRP_NO_EVENT},
+        {"02 0200 0100000000000000 0108 0001 0001", 0, 0, SRP_NO_EVENT},
+        {example_script, 8, 18, SRP_NO_ROOM},
+        {example_script, 9, 17, SRP_NO_ROOM},
+        {example_script, 0, 0, SRP_NO_ROOM},
+    };
+    uint8_t script[64];
+
+    for (size_t k = 0; k < sizeof cases / sizeof *cases; k++) {
+        unsigned long failures = tally.failures;
+        size_t length = bytes_of(cases[k].digits, script);
+
+        check_reading_refused(__LINE__, script, length, cases[k].kinds_length, cases[k].operands_length, cases[k].number);
+        if (tally.failures != failures)
+            fprintf(stderr, "    at case %zu\n", k);
+    }
+}
+
+/* Writing into a slice of this length, with bytes behind it that are looked at too. */
+static void check_writing_refused(int line, size_t n, uint64_t start, const uint8_t *kinds, size_t kinds_length, const uint8_t *operands,
+                                  size_t operands_length, size_t out_length, uint32_t number)
+{
+    uint8_t *own_kinds = copied(kinds, kinds_length), *own_operands = copied(operands, operands_length);
+    uint8_t *out = memset(allocated(out_length + GUARD), 0xa5, out_length + GUARD), *before = copied(out, out_length + GUARD);
+
+    check_eq(line, "writing", srp_write_script(n, start, own_kinds, kinds_length, own_operands, operands_length, out, out_length), number);
+    check_same(line, "out", out, before, out_length + GUARD);
+    check_same(line, "kinds", own_kinds, kinds, kinds_length);
+    check_same(line, "operands", own_operands, operands, operands_length);
+    free(own_kinds);
+    free(own_operands);
+    free(out);
+    free(before);
+}
+
+#define CHECK_WRITING(number, n, start, e, operands_length, out_length)                                                                  \
+    check_writing_refused(__LINE__, (n), (start), kinds, (e), operands, (operands_length), (out_length), (number))
+
+/* What was read is written back to the same bytes. */
+static void test_writing(void)
+{
+    uint8_t script[64], out[38 + GUARD], kinds[9], operands[18], guard[GUARD];
+    size_t length = bytes_of(example_script, script);
+
+    memset(guard, 0x5a, GUARD);
+    CHECK_EQ(SRP_ANSWER(srp_read_script(script, length, kinds, 9, operands, 18)), SRP_DONE);
+    for (size_t more = 0; more <= GUARD; more += GUARD / 2) {
+        memset(out, 0x5a, sizeof out);
+        CHECK_EQ(srp_write_script(3, 1, kinds, 9, operands, 18, out, 38 + more), result(SRP_DONE, 38));
+        CHECK_SAME(out, script, 38);
+        CHECK_SAME(out + 38, guard, GUARD);
+    }
+}
+
+static void test_writing_refused(void)
+{
+    uint8_t *kinds = memset(allocated(SRP_MAX_EVENTS + 1), SRP_EVENT_UP, SRP_MAX_EVENTS + 1);
+    uint8_t *operands = memset(allocated(2 * SRP_MAX_EVENTS + 2), 0, 2 * SRP_MAX_EVENTS + 2);
+
+    CHECK_WRITING(SRP_SCRIPT_SIZE, 2, 1, SRP_MAX_EVENTS + 1, 2 * SRP_MAX_EVENTS + 2, LONGEST);
+    CHECK_WRITING(SRP_SCRIPT_SIZE, 2, 1, 3, 5, 100);
+    CHECK_WRITING(SRP_SCRIPT_SIZE, 2, 1, 3, 7, 100);
+    CHECK_WRITING(SRP_SCRIPT_SIZE, 0, 0, 0, 1, 0);
+    CHECK_WRITING(SRP_OUT_OF_RANGE, 0, 1, 3, 6, 100);
+    CHECK_WRITING(SRP_OUT_OF_RANGE, 1, 1, 3, 6, 100);
+    CHECK_WRITING(SRP_OUT_OF_RANGE, 17, 1, 3, 6, 100);
+    CHECK_WRITING(SRP_OUT_OF_RANGE, 256 + 3, 1, 3, 6, 100);
+    CHECK_WRITING(SRP_OUT_OF_RANGE, SIZE_MAX, 1, 3, 6, 0);
+    CHECK_WRITING(SRP_OUT_OF_RANGE, 3, 0, 3, 6, 100);
+    CHECK_WRITING(SRP_NO_ROOM, 3, 1, 3, 6, 19);
+    CHECK_WRITING(SRP_NO_ROOM, 3, 1, 3, 6, 0);
+    CHECK_WRITING(SRP_NO_ROOM, 3, 1, 0, 0, 10);
+    kinds[2] = 0;
+    CHECK_WRITING(SRP_NO_EVENT, 3, 1, 3, 6, 100);
+    CHECK_WRITING(SRP_OUT_OF_RANGE, 3, 0, 3, 6, 0);
+    kinds[2] = 10;
+    CHECK_WRITING(SRP_NO_EVENT, 3, 1, 3, 6, 0);
+    operands[5] = 1;
+    for (int kind = SRP_EVENT_UP; kind <= SRP_EVENT_TRACE; kind++) {
+        bool uses_b = kind <= SRP_EVENT_SOLICIT || kind == SRP_EVENT_EXPIRE || kind == SRP_EVENT_TRACE;
+
+        kinds[2] = (uint8_t)kind;
+        CHECK_WRITING(uses_b ? SRP_NO_ROOM : SRP_NO_EVENT, 3, 1, 3, 6, 19);
+    }
+    free(kinds);
+    free(operands);
+}
+
+/* Scripts of e events, there and back: none, and as many as there may be. One more is turned down. */
+static void check_script_of(size_t e)
+{
+    uint8_t *script = allocated(LONGEST), *kinds = allocated(e), *operands = allocated(2 * e);
+
+    for (size_t k = 0; k < e; k++) {
+        kinds[k] = (uint8_t)(1 + k % 9);
+        operands[2 * k] = (uint8_t)k;
+        operands[2 * k + 1] = k % 9 < 3 ? (uint8_t)(k / 7) : 0;
+    }
+    CHECK_EQ(srp_write_script(16, UINT64_MAX, kinds, e, operands, 2 * e, script, SRP_SCRIPT_BYTES(e)), result(SRP_DONE, SRP_SCRIPT_BYTES(e)));
+    CHECK_EQ(srp_read2(script + 1), e);
+    CHECK_EQ(srp_script_start(script, SRP_SCRIPT_BYTES(e)), UINT64_MAX);
+    CHECK_SAME(script + 11, kinds, e);
+    CHECK_SAME(script + 11 + e, operands, 2 * e);
+    memset(kinds, 0, e);
+    memset(operands, 0, 2 * e);
+    CHECK_EQ(srp_read_script(script, SRP_SCRIPT_BYTES(e), kinds, e, operands, 2 * e), result(SRP_DONE, e + 65536 * 16));
+    CHECK_SAME(kinds, script + 11, e);
+    CHECK_SAME(operands, script + 11 + e, 2 * e);
+    free(script);
+    free(kinds);
+    free(operands);
+}
+
+static void test_script_sizes(void)
+{
+    uint8_t *script = memset(allocated(LONGEST), 1, LONGEST);
+
+    check_script_of(0);
+    check_script_of(1);
+    check_script_of(SRP_MAX_EVENTS);
+    script[0] = 2;
+    put(script + 1, 2, SRP_MAX_EVENTS + 1);
+    check_reading_refused(__LINE__, script, LONGEST, SRP_MAX_EVENTS + 1, 2 * SRP_MAX_EVENTS + 2, SRP_SCRIPT_SIZE);
+    put(script + 1, 2, SRP_MAX_EVENTS);
+    check_reading_refused(__LINE__, script, LONGEST, SRP_MAX_EVENTS, 2 * SRP_MAX_EVENTS, SRP_SCRIPT_SIZE);
+    free(script);
+}
+
+/* ---- Refusals ------------------------------------------------------------------------------- */
+
+/* Numbers that are no station and no packet, and look like one in 8, 16 or 32 bits. */
+static const size_t too_large[] = {128, 255, 256, 257, 65536, (size_t)1 << 32, ((size_t)1 << 32) + 1, SIZE_MAX - 255, SIZE_MAX};
+#define TOO_LARGE (sizeof too_large / sizeof *too_large)
+
+/* 2: of two stations, then of one. n is 3. */
+static void test_no_station(void)
+{
+    static const int pairs[] = {SRP_EVENT_UP, SRP_EVENT_DOWN, SRP_EVENT_SOLICIT, SRP_EVENT_EXPIRE, SRP_EVENT_TRACE, LINK, RECORD, LABEL, ROW};
+    static const int singles[] = {SRP_EVENT_GIVE_UP, STATION};
+    struct desk *d = example_after(3);
+
+    for (size_t k = 0; k < sizeof pairs / sizeof *pairs; k++) {
+        CHECK_REFUSED(d, SRP_NO_STATION, pairs[k], 3, 0);
+        CHECK_REFUSED(d, SRP_NO_STATION, pairs[k], 0, 3);
+        CHECK_REFUSED(d, SRP_NO_STATION, pairs[k], 3, 3);
+        for (size_t i = 0; i < TOO_LARGE; i++) {
+            CHECK_REFUSED(d, SRP_NO_STATION, pairs[k], too_large[i], 2);
+            CHECK_REFUSED(d, SRP_NO_STATION, pairs[k], 2, too_large[i]);
+        }
+        for (size_t i = 0; i < 3 && pairs[k] != LABEL && pairs[k] != ROW; i++)
+            CHECK_REFUSED(d, SRP_NO_STATION, pairs[k], i, i);
+    }
+    for (size_t k = 0; k < sizeof singles / sizeof *singles; k++) {
+        CHECK_REFUSED(d, SRP_NO_STATION, singles[k], 3, 0);
+        for (size_t i = 0; i < TOO_LARGE; i++)
+            CHECK_REFUSED(d, SRP_NO_STATION, singles[k], too_large[i], 0);
+    }
+    free(d);
+}
+
+/* 3, 4, 5 and 6. Station 2 is active, and one packet is in the air. */
+static void test_not_as_it_stands(void)
+{
+    static const int of_packets[] = {SRP_EVENT_DELIVER, SRP_EVENT_LOSE, SRP_EVENT_DUPLICATE, PACKET};
+    struct desk *d = example_after(3);
+
+    CHECK_REFUSED(d, SRP_LINK_ALREADY, SRP_EVENT_UP, 0, 1);
+    CHECK_REFUSED(d, SRP_LINK_ALREADY, SRP_EVENT_UP, 1, 0);
+    CHECK_REFUSED(d, SRP_LINK_ALREADY, SRP_EVENT_UP, 2, 1);
+    CHECK_REFUSED(d, SRP_LINK_ALREADY, SRP_EVENT_DOWN, 0, 2);
+    CHECK_REFUSED(d, SRP_LINK_ALREADY, SRP_EVENT_DOWN, 2, 0);
+    CHECK_REFUSED(d, SRP_IS_ACTIVE, SRP_EVENT_SOLICIT, 2, 0);
+    CHECK_REFUSED(d, SRP_IS_ACTIVE, SRP_EVENT_SOLICIT, 2, 1);
+    CHECK_REFUSED(d, SRP_IS_PASSIVE, SRP_EVENT_GIVE_UP, 0, 0);
+    CHECK_REFUSED(d, SRP_IS_PASSIVE, SRP_EVENT_GIVE_UP, 1, 0);
+    for (size_t k = 0; k < sizeof of_packets / sizeof *of_packets; k++) {
+        CHECK_REFUSED(d, SRP_NO_PACKET, of_packets[k], 1, 0);
+        for (size_t i = 0; i < TOO_LARGE; i++)
+            CHECK_REFUSED(d, SRP_NO_PACKET, of_packets[k], too_large[i], 0);
+    }
+    free(d);
+}
+
+/* The first packet again and again, until so many are in the air. */
+static void fill_air(struct desk *d, unsigned packets)
+{
+    while (d->memory[SRP_AIR_AT] < packets) {
+        unsigned air = d->memory[SRP_AIR_AT];
+
+        CHECK_EQ(call_on(d, (struct call){SRP_EVENT_DUPLICATE, 0, 0}, LENT, OUT), SRP_DONE);
+        CHECK_EQ(srp_air(d->memory, LENT), result(SRP_DONE, air + 1));
+        CHECK_SAME(d->memory + SRP_PACKET_AT(air), d->memory + SRP_PACKET_AT(0), SRP_PACKET_BYTES);
+        if (d->memory[SRP_AIR_AT] != air + 1)
+            return;
+    }
+}
+
+/* 7: of Duplicate, Solicit, Deliver and Down. What sends no more is not turned down. */
+static void test_air_full(void)
+{
+    struct desk *d = example_after(3);
+
+    fill_air(d, SRP_MAX_PACKETS);
+    check_shown(d);
+    CHECK_REFUSED(d, SRP_AIR_FULL, SRP_EVENT_DUPLICATE, 0, 0);
+    CHECK_REFUSED(d, SRP_AIR_FULL, SRP_EVENT_DUPLICATE, SRP_MAX_PACKETS - 1, 0);
+    CHECK_REFUSED(d, SRP_NO_PACKET, SRP_EVENT_DUPLICATE, SRP_MAX_PACKETS, 0);
+    CHECK_REFUSED(d, SRP_AIR_FULL, SRP_EVENT_SOLICIT, 0, 1);
+    CHECK_REFUSED(d, SRP_AIR_FULL, SRP_EVENT_DELIVER, 0, 0); /* 1 would send two on */
+    CHECK_EQ(call_on(d, (struct call){SRP_EVENT_LOSE, SRP_MAX_PACKETS - 1, 0}, LENT, OUT), SRP_DONE);
+    CHECK_EQ(call_on(d, (struct call){SRP_EVENT_DELIVER, 0, 0}, LENT, OUT), result(SRP_REQUEST_SENT_ON, 2));
+    check_left(__LINE__, d);
+    CHECK_EQ(srp_air(d->memory, LENT), result(SRP_DONE, SRP_MAX_PACKETS));
+    /* Down drops what is between the two, so nothing is over. */
+    CHECK_EQ(call_on(d, (struct call){SRP_EVENT_DOWN, 1, 2}, LENT, OUT), SRP_DONE);
+    CHECK_EQ(srp_air(d->memory, LENT), result(SRP_DONE, 1));
+    fill_air(d, SRP_MAX_PACKETS);
+    CHECK_EQ(call_on(d, (struct call){SRP_EVENT_GIVE_UP, 2, 0}, LENT, OUT), SRP_DONE);
+    CHECK_EQ(call_on(d, (struct call){SRP_EVENT_SOLICIT, 2, 0}, LENT, OUT), SRP_DONE); /* no neighbour, nothing sent */
+    CHECK_EQ(call_on(d, (struct call){SRP_EVENT_DELIVER, 5, 0}, LENT, OUT), result(SRP_REQUEST_ANSWERED, 1));
+    CHECK_EQ(srp_air(d->memory, LENT), result(SRP_DONE, SRP_MAX_PACKETS));
+    check_left(__LINE__, d);
+    free(d);
+}
+
+static void test_air_full_for_down(void)
+{
+    struct desk *d = example_after(EXAMPLE);
+
+    CHECK_EQ(call_on(d, (struct call){SRP_EVENT_SOLICIT, 2, 0}, LENT, OUT), result(SRP_DONE, 1));
+    fill_air(d, SRP_MAX_PACKETS);
+    CHECK_REFUSED(d, SRP_AIR_FULL, SRP_EVENT_DOWN, 0, 1); /* 1 would send an error to 2 */
+    CHECK_REFUSED(d, SRP_AIR_FULL, SRP_EVENT_DOWN, 1, 0);
+    CHECK_EQ(call_on(d, (struct call){SRP_EVENT_LOSE, 0, 0}, LENT, OUT), SRP_DONE);
+    CHECK_EQ(call_on(d, (struct call){SRP_EVENT_DOWN, 1, 0}, LENT, OUT), result(SRP_DONE, 1));
+    check_left(__LINE__, d);
+    free(d);
+}
+
+/* 8: after 4 and before 7. One number less is taken. */
+static void test_numbers_used_up(void)
+{
+    struct desk *d = example_after(3);
+
+    put(d->memory + SRP_NUMBER_AT(0), 4, UINT32_MAX);
+    put(d->memory + SRP_NUMBER_AT(2), 4, UINT32_MAX);
+    CHECK_REFUSED(d, SRP_NUMBERS_USED_UP, SRP_EVENT_SOLICIT, 0, 1);
+    CHECK_REFUSED(d, SRP_IS_ACTIVE, SRP_EVENT_SOLICIT, 2, 1);
+    CHECK_REFUSED(d, SRP_NO_STATION, SRP_EVENT_SOLICIT, 0, 3);
+    fill_air(d, SRP_MAX_PACKETS);
+    CHECK_REFUSED(d, SRP_NUMBERS_USED_UP, SRP_EVENT_SOLICIT, 0, 1);
+    CHECK_EQ(call_on(d, (struct call){SRP_EVENT_LOSE, 0, 0}, LENT, OUT), SRP_DONE);
+    put(d->memory + SRP_NUMBER_AT(0), 4, UINT32_MAX - 1);
+    CHECK_EQ(call_on(d, (struct call){SRP_EVENT_SOLICIT, 0, 2}, LENT, OUT), result(SRP_DONE, 1));
+    CHECK_STATION(d, 0, UINT32_MAX, 2, 1);
+    CHECK_EQ(srp_read4(d->memory + SRP_PACKET_AT(SRP_MAX_PACKETS - 1) + SRP_PACKET_NUMBER), UINT32_MAX);
+    free(d);
+}
+
+/* 12 of the calls that show, after 2 and 6; and an output slice that just fits. */
+static void test_no_room(void)
+{
+    struct desk *d = example_after(3);
+
+    for (int kind = LABEL; kind < KINDS; kind++) {
+        struct call c = {kind, 0, kind == PACKET ? 0 : 1}, wrong = {kind, 3, 3};
+        size_t bytes = shown_bytes(kind);
+        uint8_t *out = allocated(bytes);
+
+        check_refused(__LINE__, d, c, LENT, bytes - 1, SRP_NO_ROOM);
+        check_refused(__LINE__, d, c, LENT, 1, SRP_NO_ROOM);
+        check_refused(__LINE__, d, c, LENT, 0, SRP_NO_ROOM);
+        check_refused(__LINE__, d, wrong, LENT, 0, kind == PACKET ? SRP_NO_PACKET : SRP_NO_STATION);
+        check_refused(__LINE__, d, wrong, SRP_LENGTH - 1, 0, SRP_OUT_OF_RANGE);
+        CHECK_EQ(call_on(d, c, LENT, OUT), result(SRP_DONE, bytes));
+        CHECK_EQ(make(c, d->memory, SRP_LENGTH, out, bytes), result(SRP_DONE, bytes));
+        CHECK_SAME(out, d->out, bytes);
+        free(out);
+    }
+    free(d);
+}
+
+/* Every call but Open gives 1, whatever its numbers. */
+static void check_out_of_range(int line, struct desk *d, size_t length)
+{
+    for (int kind = SRP_EVENT_UP; kind < KINDS; kind++) {
+        if (kind == OPEN)
+            continue;
+        check_refused(line, d, (struct call){kind, 0, 1}, length, OUT, SRP_OUT_OF_RANGE);
+        check_refused(line, d, (struct call){kind, SIZE_MAX, SIZE_MAX}, length, 0, SRP_OUT_OF_RANGE);
+    }
+}
+
+/* 1: a slice that is too short, with nothing behind it, and the same as the first bytes of a longer one. */
+static void check_short_slice(size_t length)
+{
+    struct desk *d = example_after(3);
+    uint8_t *own = copied(d->memory, length);
+
+    for (int kind = SRP_EVENT_UP; kind < KINDS; kind++) {
+        CHECK_EQ(make((struct call){kind, kind == OPEN ? 3 : 0, 1}, own, length, d->out, OUT), SRP_OUT_OF_RANGE);
+        CHECK_SAME(own, d->memory, length);
+    }
+    check_out_of_range(__LINE__, d, length);
+    check_refused(__LINE__, d, (struct call){OPEN, 3, 1}, length, OUT, SRP_OUT_OF_RANGE);
+    free(own);
+    free(d);
+}
+
+static void test_short_slices(void)
+{
+    for (size_t length = 0; length < SRP_LENGTH; length += 997)
+        check_short_slice(length);
+    check_short_slice(1);
+    check_short_slice(SRP_AIR_AT);
+    check_short_slice(SRP_LENGTH - 1);
+}
+
+static void test_open_refused(void)
+{
+    struct desk *d = example_after(3);
+
+    CHECK_REFUSED(d, SRP_OUT_OF_RANGE, OPEN, 0, 1);
+    CHECK_REFUSED(d, SRP_OUT_OF_RANGE, OPEN, 1, 1);
+    CHECK_REFUSED(d, SRP_OUT_OF_RANGE, OPEN, 17, 1);
+    CHECK_REFUSED(d, SRP_OUT_OF_RANGE, OPEN, 2, 0);
+    CHECK_REFUSED(d, SRP_OUT_OF_RANGE, OPEN, 16, 0);
+    for (size_t i = 0; i < TOO_LARGE; i++)
+        CHECK_REFUSED(d, SRP_OUT_OF_RANGE, OPEN, too_large[i] + 2, 1);
+    free(d);
+}
+
+/* ---- Damaged memory ------------------------------------------------------------------------- */
+
+/* A byte of the square after its last step, and a value that it must not have. */
+struct wrong_byte {
+    size_t at;
+    uint8_t value;
+};
+
+/* Bytes that have no meaning. Packet 0 is an error, packet 1 a request, packet 4 a reply. */
+static const struct wrong_byte meaningless[] = {
+    {SRP_N_AT, 17},
+    {SRP_N_AT, 255},
+    {SRP_AIR_AT, 129},
+    {SRP_AIR_AT, 255},
+    {SRP_ACTIVE_AT + 0, 2},
+    {SRP_ACTIVE_AT + 3, 255},
+    {SRP_LINK_AT(0, 1), 2},
+    {SRP_LINK_AT(2, 3), 128},
+    {SRP_RECORD_AT(0, 1) + SRP_RECORD_PASSED, 2},
+    {SRP_RECORD_AT(3, 0) + SRP_RECORD_PASSED, 3},
+    {SRP_PACKET_AT(1) + SRP_PACKET_RESET, 2},
+    {SRP_PACKET_AT(1) + SRP_PACKET_MASK, 1},
+    {SRP_PACKET_AT(1) + SRP_PACKET_MASK + 1, 1},
+    {SRP_PACKET_AT(4) + SRP_PACKET_RESET, 1},
+    {SRP_PACKET_AT(4) + SRP_PACKET_MASK, 1},
+    {SRP_PACKET_AT(4) + SRP_PACKET_MASK + 1, 128},
+    {SRP_PACKET_AT(0) + SRP_PACKET_SOURCE, 1},
+    {SRP_PACKET_AT(0) + SRP_PACKET_NUMBER, 1},
+    {SRP_PACKET_AT(0) + SRP_PACKET_NUMBER + 3, 1},
+    {SRP_PACKET_AT(0) + SRP_PACKET_DESTINATION, 1},
+    {SRP_PACKET_AT(0) + SRP_PACKET_LABEL + SRP_LABEL_S + 7, 1},
+    {SRP_PACKET_AT(0) + SRP_PACKET_LABEL + SRP_LABEL_M, 1},
+    {SRP_PACKET_AT(0) + SRP_PACKET_LABEL + SRP_LABEL_D, 1},
+    {SRP_PACKET_AT(0) + SRP_PACKET_RESET, 1},
+};
+
+/* Bytes that have a meaning, of a network out of range. Station 3's row for 0 names 1 and 2. */
+static const struct wrong_byte out_of_range[] = {
+    {SRP_N_AT, 0},
+    {SRP_N_AT, 1},
+    {SRP_N_AT, 3},
+    {SRP_SOUGHT_AT + 1, 4},
+    {SRP_LABEL_AT(1, 2) + SRP_LABEL_M, 0},
+    {SRP_LABEL_AT(1, 2) + SRP_LABEL_S, 1},
+    {SRP_LABEL_AT(3, 0) + SRP_LABEL_M, 3},
+    {SRP_LABEL_AT(3, 0) + SRP_LABEL_D, 0},
+    {SRP_LABEL_AT(3, 0) + SRP_LABEL_S, 0},
+    {SRP_LABEL_AT(2, 2) + SRP_LABEL_S, 0},
+    {SRP_LABEL_AT(2, 2) + SRP_LABEL_M, 1},
+    {SRP_LABEL_AT(2, 2) + SRP_LABEL_D, 2},
+    {SRP_ROW_AT(2, 2) + SRP_ROW_COUNT, 1},
+    {SRP_ROW_AT(3, 0) + SRP_ROW_COUNT, 5},
+    {SRP_ROW_AT(3, 0) + SRP_ROW_COUNT, 3},
+    {SRP_ROW_AT(3, 0) + SRP_ROW_ENTRIES + SRP_ENTRY_STATION, 3},
+    {SRP_ROW_AT(3, 0) + SRP_ROW_ENTRIES + SRP_ENTRY_STATION, 2},
+    {SRP_ROW_AT(3, 0) + SRP_ROW_ENTRIES + SRP_ENTRY_STATION, 4},
+    {SRP_ROW_AT(3, 0) + SRP_ROW_ENTRIES + SRP_ENTRY_LABEL + SRP_LABEL_M, 2},
+    {SRP_RECORD_AT(2, 3) + SRP_RECORD_DESTINATION, 4},
+    {SRP_RECORD_AT(2, 3) + SRP_RECORD_CACHED + SRP_LABEL_M, 2},
+    {SRP_RECORD_AT(2, 3) + SRP_RECORD_LAST_HOP, 4},
+    {SRP_PACKET_AT(0) + SRP_PACKET_SENDER, 4},
+    {SRP_PACKET_AT(0) + SRP_PACKET_SENDER, 3},
+    {SRP_PACKET_AT(0) + SRP_PACKET_RECEIVER, 4},
+    {SRP_PACKET_AT(0) + SRP_PACKET_KIND, 0},
+    {SRP_PACKET_AT(0) + SRP_PACKET_KIND, 1},
+    {SRP_PACKET_AT(0) + SRP_PACKET_KIND, 4},
+    {SRP_PACKET_AT(0) + SRP_PACKET_MASK, 16},
+    {SRP_PACKET_AT(0) + SRP_PACKET_MASK + 1, 1},
+    {SRP_PACKET_AT(1) + SRP_PACKET_SOURCE, 4},
+    {SRP_PACKET_AT(1) + SRP_PACKET_NUMBER, 0},
+    {SRP_PACKET_AT(1) + SRP_PACKET_DESTINATION, 4},
+    {SRP_PACKET_AT(1) + SRP_PACKET_LABEL + SRP_LABEL_D, 2},
+    {SRP_PACKET_AT(4) + SRP_PACKET_NUMBER, 0},
+    {SRP_AIR_AT, 6},
+};
+
+static void check_wrong_bytes(const struct wrong_byte *bytes, size_t count)
+{
+    struct desk *d = square_after(SQUARE);
+    uint8_t *network = copied(d->memory, LENT);
+
+    for (size_t k = 0; k < count; k++) {
+        unsigned long failures = tally.failures;
+
+        memcpy(d->memory, network, LENT);
+        d->memory[bytes[k].at] = bytes[k].value;
+        CHECK_EQ(in_range(d->memory), false);
+        check_out_of_range(__LINE__, d, LENT);
+        if (tally.failures != failures)
+            fprintf(stderr, "    with byte %zu set to %u\n", bytes[k].at, bytes[k].value);
+    }
+    free(network);
+    free(d);
+}
+
+/* A row of a station for itself that would be in range for another. */
+static void test_own_row(void)
+{
+    struct desk *d = square_after(SQUARE);
+    uint8_t *row = d->memory + SRP_ROW_AT(2, 2);
+
+    row[SRP_ROW_COUNT] = 1;
+    row[SRP_ROW_ENTRIES + SRP_ENTRY_STATION] = 3;
+    put_label(row + SRP_ROW_ENTRIES + SRP_ENTRY_LABEL, 1, 0, 1);
+    check_out_of_range(__LINE__, d, LENT);
+    free(d);
+}
+
+static void test_wrong_bytes(void)
+{
+    check_wrong_bytes(meaningless, sizeof meaningless / sizeof *meaningless);
+    check_wrong_bytes(out_of_range, sizeof out_of_range / sizeof *out_of_range);
+}
+
+/* Random bytes: all of them, and with numbers of stations and packets that are in range. */
+static void test_random_bytes(void)
+{
+    struct desk *d = opened(2, 1);
+    uint64_t state = 0x9e3779b97f4a7c15u;
+
+    for (unsigned trial = 0; trial < 50; trial++) {
+        for (size_t at = 0; at < LENT; at++)
+            d->memory[at] = (uint8_t)(next_random(&state) >> 32);
+        if (trial % 2) {
+            d->memory[SRP_N_AT] = (uint8_t)(2 + trial % 15);
+            d->memory[SRP_AIR_AT] = (uint8_t)trial;
+        }
+        CHECK_EQ(in_range(d->memory), false);
+        check_out_of_range(__LINE__, d, LENT);
+    }
+    CHECK_EQ(call_on(d, (struct call){OPEN, 3, 1}, LENT, OUT), SRP_DONE);
+    check_left(__LINE__, d);
+    free(d);
+}
+
+/* The calls that are made on damaged memory, accepted and turned down by the square. */
+static const struct call trials[] = {
+    {SRP_EVENT_DELIVER, 0, 0},   {SRP_EVENT_DELIVER, 1, 0},   {SRP_EVENT_DELIVER, 2, 0}, {SRP_EVENT_DELIVER, 3, 0}, {SRP_EVENT_DELIVER, 4, 0},
+    {SRP_EVENT_DELIVER, 5, 0},   {SRP_EVENT_UP, 0, 1},        {SRP_EVENT_UP, 0, 2},      {SRP_EVENT_DOWN, 3, 2},    {SRP_EVENT_DOWN, 0, 2},
+    {SRP_EVENT_DOWN, 0, 3},      {SRP_EVENT_SOLICIT, 0, 3},   {SRP_EVENT_SOLICIT, 1, 0}, {SRP_EVENT_SOLICIT, 2, 0}, {SRP_EVENT_GIVE_UP, 3, 0},
+    {SRP_EVENT_GIVE_UP, 0, 0},   {SRP_EVENT_EXPIRE, 3, 0},    {SRP_EVENT_EXPIRE, 0, 1},  {SRP_EVENT_LOSE, 2, 0},    {SRP_EVENT_LOSE, 4, 0},
+    {SRP_EVENT_DUPLICATE, 0, 0}, {SRP_EVENT_DUPLICATE, 3, 0}, {SRP_EVENT_TRACE, 3, 0},   {SRP_EVENT_TRACE, 1, 0},   {LABEL, 3, 0},
+    {ROW, 3, 0},                 {RECORD, 2, 3},              {STATION, 3, 0},           {PACKET, 4, 0},            {LINK, 2, 3},
+};
+#define TRIALS (sizeof trials / sizeof *trials)
+
+/* What a call gives on the square itself: its result, and what it leaves. */
+struct outcome {
+    uint64_t result;
+    uint8_t memory[SRP_LENGTH], out[OUT];
+};
+
+static void find_outcome(struct outcome *o, const uint8_t *network, struct call c)
+{
+    memcpy(o->memory, network, SRP_LENGTH);
+    memset(o->out, 0x5a, OUT);
+    o->result = make(c, o->memory, SRP_LENGTH, o->out, OUT);
+}
+
+/*
+ * The same call where only free places differ: the same result, the same bytes shown, and the same bytes left, but for places of no
+ * station, which are written back as they were.
+ */
+static void check_as_undamaged(struct desk *d, struct call c, uint64_t r, const struct outcome *o, const uint8_t *map)
+{
+    uint8_t *wanted = copied(d->before, SRP_LENGTH);
+
+    CHECK_EQ(r, o->result);
+    CHECK_SAME(d->out, o->out, OUT);
+    if (!SRP_REFUSED(r) && !shows(c.kind)) {
+        settle(wanted);
+        for (size_t at = 0; at < SRP_LENGTH; at++)
+            wanted[at] = map[at] == OF_NO_STATION ? wanted[at] : o->memory[at];
+    }
+    CHECK_SAME(d->memory, wanted, SRP_LENGTH);
+    free(wanted);
+}
+
+/* srp_size tells memory in range from memory out of range. */
+static void check_size(struct desk *d)
+{
+    CHECK_EQ(srp_size(d->memory, LENT), in_range(d->memory) ? result(SRP_DONE, d->memory[SRP_N_AT]) : SRP_OUT_OF_RANGE);
+}
+
+/* A call on memory that may be out of range. */
+static uint64_t check_trial(struct desk *d, struct call c, size_t length)
+{
+    bool ranged = in_range(d->memory);
+    uint64_t r;
+
+    memset(d->out, 0x5a, OUT);
+    r = call_on(d, c, length, OUT);
+    CHECK_EQ(SRP_ANSWER(r) == SRP_OUT_OF_RANGE, !ranged);
+    if (SRP_REFUSED(r)) {
+        CHECK_EQ(SRP_ANSWER(r) <= SRP_NUMBERS_USED_UP, true);
+        CHECK_EQ(SRP_COUNT(r), 0);
+        CHECK_SAME(d->memory, d->before, LENT);
+        CHECK_SAME(d->out, d->out_before, OUT);
+    } else if (shows(c.kind)) {
+        CHECK_SAME(d->memory, d->before, LENT);
+    } else {
+        check_left(__LINE__, d);
+    }
+    return r;
+}
+
+/* One byte of the square is another, and a call is made, another one at each trial. */
+static void check_damage(struct desk *d, const uint8_t *network, const uint8_t *map, const struct outcome *outcomes, size_t at, uint8_t value,
+                         size_t trial)
+{
+    unsigned long failures = tally.failures;
+    struct call c = trials[trial % TRIALS];
+    uint64_t r;
+
+    memcpy(d->memory, network, LENT);
+    d->memory[at] = value;
+    check_size(d);
+    r = check_trial(d, c, trial / TRIALS % 2 ? LENT : SRP_LENGTH);
+    if (map[at] != IN_USE)
+        check_as_undamaged(d, c, r, &outcomes[trial % TRIALS], map);
+    if (tally.failures != failures && tally.failures <= PRINTED_FAILURES)
+        fprintf(stderr, "    with byte %zu set to %u, call %d(%zu, %zu)\n", at, value, c.kind, c.a, c.b);
+}
+
+static void test_damage(size_t step)
+{
+    struct desk *d = square_after(SQUARE);
+    uint8_t *network = copied(d->memory, LENT), *map = allocated(SRP_LENGTH);
+    struct outcome *outcomes = allocated(TRIALS * sizeof *outcomes);
+    size_t trial = 0;
+
+    mark(network, map);
+    for (size_t k = 0; k < TRIALS; k++)
+        find_outcome(&outcomes[k], network, trials[k]);
+    for (size_t at = 0; at < SRP_LENGTH; at += step) {
+        check_damage(d, network, map, outcomes, at, network[at] ^ 1, trial++);
+        check_damage(d, network, map, outcomes, at, network[at] ^ 0x80, trial++);
+        check_damage(d, network, map, outcomes, at, 0xff, trial++);
+    }
+    free(outcomes);
+    free(map);
+    free(network);
+    free(d);
+}
+
+/* Every byte in use, with values at the ends of what it may be. */
+static void test_values(void)
+{
+    static const uint8_t values[] = {0, 1, 2, 3, 4, 5, 15, 16, 17, 127, 128, 129, 255};
+    struct desk *d = square_after(SQUARE);
+    uint8_t *network = copied(d->memory, LENT), *map = allocated(SRP_LENGTH);
+
+    mark(network, map);
+    for (size_t at = 0; at < SRP_LENGTH; at++)
+        for (size_t k = 0; map[at] == IN_USE && k < sizeof values; k++) {
+            d->memory[at] = values[k];
+            check_size(d);
+            d->memory[at] = network[at];
+        }
+    CHECK_SAME(d->memory, network, LENT);
+    free(map);
+    free(network);
+    free(d);
+}
+
+/* ---- Free places ---------------------------------------------------------------------------- */
+
+/* Random bytes in every free place. */
+static void scribble(uint8_t *memory, const uint8_t *map, uint64_t *state)
+{
+    for (size_t at = 0; at < SRP_LENGTH; at++)
+        if (map[at] != IN_USE)
+            memory[at] = (uint8_t)(next_random(state) >> 32);
+}
+
+/* The same calls on a network and on its copy with other free places: the same, but for what no station has. */
+static void check_free_places(const struct desk *from, uint64_t *state)
+{
+    struct desk *d = allocated(sizeof *d);
+    uint8_t *map = allocated(SRP_LENGTH);
+    struct outcome *o = allocated(sizeof *o);
+
+    mark(from->memory, map);
+    for (size_t k = 0; k < TRIALS; k++) {
+        unsigned long failures = tally.failures;
+
+        memcpy(d->memory, from->memory, LENT);
+        scribble(d->memory, map, state);
+        find_outcome(o, from->memory, trials[k]);
+        CHECK_EQ(in_range(d->memory), true);
+        check_as_undamaged(d, trials[k], check_trial(d, trials[k], LENT), o, map);
+        if (tally.failures != failures)
+            fprintf(stderr, "    at trial %zu\n", k);
+    }
+    free(o);
+    free(map);
+    free(d);
+}
+
+static void test_free_places(void)
+{
+    uint64_t state = 0x2545f4914f6cdd1du;
+
+    for (size_t steps = 0; steps <= SQUARE; steps++) {
+        struct desk *d = square_after(steps);
+
+        check_free_places(d, &state);
+        free(d);
+    }
+}
+
+/* Each flag of no station: 0 unless it was 1. */
+static void test_free_flags(void)
+{
+    static const size_t flags[] = {
+        SRP_ACTIVE_AT + 4,
+        SRP_ACTIVE_AT + 15,
+        SRP_LINK_AT(0, 4),
+        SRP_LINK_AT(1, 0),
+        SRP_LINK_AT(2, 2),
+        SRP_LINK_AT(15, 15),
+        SRP_RECORD_AT(0, 0) + SRP_RECORD_PASSED,
+        SRP_RECORD_AT(3, 4) + SRP_RECORD_PASSED,
+        SRP_RECORD_AT(15, 0) + SRP_RECORD_PASSED,
+    };
+    struct desk *d = square_after(SQUARE);
+
+    for (size_t k = 0; k < sizeof flags / sizeof *flags; k++)
+        for (unsigned value = 0; value < 256; value += value < 3 ? 1 : 63) {
+            d->memory[flags[k]] = (uint8_t)value;
+            CHECK_EQ(call_on(d, (struct call){SRP_EVENT_EXPIRE, 0, 1}, LENT, OUT), SRP_DONE);
+            CHECK_EQ(d->memory[flags[k]], value == 1);
+            d->memory[flags[k]] = 0;
+        }
+    CHECK_EQ(call_on(d, (struct call){SRP_EVENT_EXPIRE, 0, 1}, LENT, OUT), SRP_DONE);
+    CHECK_SAME(d->memory, d->before, LENT);
+    free(d);
+}
+
+/* An entry and a packet that are gone leave zeros; a row that is shown has zeros past its count, whatever stands there. */
+static void test_past_counts(void)
+{
+    static const uint8_t zeros[SRP_ROW_BYTES];
+    struct desk *d = square_after(SQUARE);
+    size_t row = SRP_ROW_AT(3, 0), second = row + SRP_ROW_ENTRIES + SRP_ENTRY_BYTES;
+
+    d->memory[row + SRP_ROW_COUNT] = 1;
+    CHECK_EQ(srp_row(d->memory, LENT, 3, 0, d->out, OUT), result(SRP_DONE, SRP_ROW_BYTES));
+    CHECK_SAME(d->out + SRP_ROW_ENTRIES + SRP_ENTRY_BYTES, zeros, 3 * SRP_ENTRY_BYTES);
+    d->memory[row + SRP_ROW_COUNT] = 2;
+    CHECK_EQ(call_on(d, (struct call){SRP_EVENT_DELIVER, 0, 0}, LENT, OUT), result(SRP_ERROR_NONE_EMPTIED, 0));
+    CHECK_EQ(d->memory[row + SRP_ROW_COUNT], 1);
+    CHECK_SAME(d->memory + second, zeros, SRP_ENTRY_BYTES);
+    CHECK_SAME(d->memory + SRP_PACKET_AT(4), zeros, SRP_PACKET_BYTES);
+    CHECK_EQ(call_on(d, (struct call){SRP_EVENT_EXPIRE, 3, 0}, LENT, OUT), SRP_DONE);
+    CHECK_SAME(d->memory + row, zeros, SRP_ROW_BYTES);
+    CHECK_EQ(call_on(d, (struct call){SRP_EVENT_LOSE, 0, 0}, LENT, OUT), SRP_DONE);
+    CHECK_SAME(d->memory + SRP_PACKET_AT(3), zeros, SRP_PACKET_BYTES);
+    free(d);
+}
+
+/* --------------------------------------------------------------------------------------------- */
+
+int main(int argc, char **argv)
+{
+    size_t step = argc > 1 ? strtoul(argv[1], NULL, 10) : 1;
+
+    if (step == 0 || argc > 2) {
+        fprintf(stderr, "usage: client [STEP]\n");
+        return 2;
+    }
+    test_open();
+    test_example();
+    test_exact_slice();
+    test_square();
+    test_other_calls();
+    test_hand_written();
+    test_new_label();
+    test_splits();
+    test_reading();
+    test_script_start();
+    test_reading_refused();
+    test_writing();
+    test_writing_refused();
+    test_script_sizes();
+    test_no_station();
+    test_not_as_it_stands();
+    test_air_full();
+    test_air_full_for_down();
+    test_numbers_used_up();
+    test_no_room();
+    test_short_slices();
+    test_open_refused();
+    test_wrong_bytes();
+    test_own_row();
+    test_random_bytes();
+    test_damage(step);
+    test_values();
+    test_free_places();
+    test_free_flags();
+    test_past_counts();
+    if (tally.failures) {
+        printf("console: %lu checks, %lu failed\n", tally.checks, tally.failures);
+        return 1;
+    }
+    printf("console: %lu checks\n", tally.checks);
+    return 0;
+}
