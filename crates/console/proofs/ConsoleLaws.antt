@@ -1,18 +1,17 @@
 -- Laws of the console's calls: what memory that is written reads as, and how a call ends.
 use Prim.Native.Nat.{ℕ, _+_, _-_, _≤_, _<_}
 use mathlib.Core.Path.{_≡_, refl, ap, subst, _∙_}
-use mathlib.Core.Bool.{true, false, not, _&&_}
+use mathlib.Core.Bool.{true, false, not}
 use mathlib.Core.List.{List, _++_}
 use lib.ListN.{length, drop, length-append}
-use lib.Dec.{leb}
 use native.Mathlib.Omega.{arith}
-use borrow.Author.Tests.{lt-ltb, ltb-false, le-ltb, leb-true, not-false}
-use Rattle.base.specs.Lists.{allBelow}
-use Rattle.base.proofs.Flags.{both, neither}
+use borrow.Author.Tests.{lt-ltb, ltb-false, le-ltb, not-false}
+use Rattle.base.proofs.Flags.{neither}
 use Rattle.codec.specs.Bytes.{over}
-use Rattle.model.specs.Memory.{Network, airLimit, sizeInRange, stationInRange, airInRange, memoryInRange}
+use Rattle.model.specs.Memory.{Network, memoryInRange}
 use Rattle.model.specs.Calls.{Call, Open, Up, Down, Solicit, GiveUp, Expire, Deliver, Lose, Duplicate}
 use Rattle.model.specs.Calls.{Effect, Result, refused, accepted, turnsDown, refuse_when_otherwise_, step, traced, trace}
+use Rattle.model.proofs.Range.{Kept, in-range-kept}
 use Rattle.model.proofs.Answers.{refused-tells, accepted-tells}
 use Rattle.network.specs.declared.Memory.{Memory}
 use Rattle.network.specs.View.{view}
@@ -31,13 +30,13 @@ use Rattle.console.specs.Contracts.{Finished}
 
 -- Bytes that are memory: long enough, and with a meaning.
 module _ (bytes : List ℕ) (h : notMemory bytes ≡ false) where
-  pub memory-short : tooShort bytes ≡ false
+  pub memory-not-short : tooShort bytes ≡ false
   unfolding notMemory
-  memory-short = neither (tooShort bytes) (not (hasMeaning bytes)) h .0
+  memory-not-short = neither (tooShort bytes) (not (hasMeaning bytes)) h .0
 
   pub memory-long : layoutLength ≤ length bytes
   unfolding tooShort
-  memory-long = ltb-false (length bytes) layoutLength memory-short
+  memory-long = ltb-false (length bytes) layoutLength memory-not-short
 
   pub memory-meant : hasMeaning bytes ≡ true
   unfolding notMemory
@@ -46,7 +45,7 @@ module _ (bytes : List ℕ) (h : notMemory bytes ≡ false) where
   -- No call on them is turned down for the bytes.
   pub memory-readable : (c : Call) → unreadable c bytes ≡ false
   unfolding unreadable
-  memory-readable (Open n start) = memory-short
+  memory-readable (Open n start) = memory-not-short
   memory-readable (Up a b) = h
   memory-readable (Down a b) = h
   memory-readable (Solicit a t) = h
@@ -77,19 +76,13 @@ module _ (c : Call) (bytes : List ℕ) where
 -- What is written is memory, and reads back.
 module _ (net : Network) (fits : NetworkFits net) (ranged : memoryInRange net ≡ true) (bytes bytes′ : List ℕ)
     (long : layoutLength ≤ length bytes) (e : bytes′ ≡ over (networkBytes net) bytes) where
-  sizes : (sizeInRange (net .n) ≡ true) × (airInRange (net .n) (net .air) ≡ true)
-  unfolding memoryInRange
-  sizes =
-      let parts = both (sizeInRange (net .n) && allBelow (net .n) (stationInRange net)) (airInRange (net .n) (net .air)) ranged in
-      (both (sizeInRange (net .n)) (allBelow (net .n) (stationInRange net)) (parts .0) .0, parts .1)
-
-  few : net .n ≤ 16
-  unfolding sizeInRange
-  few = leb-true (net .n) 16 (both (leb 2 (net .n)) (leb (net .n) 16) (sizes .0) .1)
-
-  room : length (net .air) ≤ airLimit
-  unfolding airInRange
-  room = leb-true (length (net .air)) airLimit (both (leb (length (net .air)) airLimit) _ (sizes .1) .0)
+  kept : Kept ⊥ net
+  kept = in-range-kept net ranged (record {
+    labels-length = fits .labels .long;
+    rows-length = fits .rows .long;
+    records-length = fits .records .long;
+    sought-length = fits .head .sought-long;
+  })
 
   rest : List ℕ
   rest = drop (length (networkBytes net)) bytes
@@ -101,7 +94,7 @@ module _ (net : Network) (fits : NetworkFits net) (ranged : memoryInRange net �
   pub written-stores : Stores bytes′ net
   unfolding notMemory tooShort
   written-stores = record {
-    readable = rw (le-ltb (length bytes′) layoutLength (omega (arith, ap length split, length-append (networkBytes net) rest, network-wide net fits)), meaning-back net fits bytes′ rest split few room);
+    readable = rw (le-ltb (length bytes′) layoutLength (omega (arith, ap length split, length-append (networkBytes net) rest, network-wide net fits)), meaning-back net fits bytes′ rest split (kept .good .high) (kept .room));
     network = network-back net fits bytes′ rest split;
     in-range = ranged;
   }

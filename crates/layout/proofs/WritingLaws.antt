@@ -5,8 +5,8 @@ use mathlib.Core.List.{List, [], flatMap}
 use lib.ListN.{length, getD}
 use lib.Seq.{sets, length-sets}
 use native.Mathlib.Omega.{arith}
+use borrow.Author.Count.{below-none, below-more}
 use Rattle.base.specs.Lists.{tabulate}
-use Rattle.base.proofs.Flags.{Against, less, equal, more, against}
 use Rattle.base.proofs.Loops.{tabulate-length, tabulate-at}
 use Rattle.label.specs.declared.Label.{Label}
 use Rattle.codec.proofs.ByteLaws.{sets-apart}
@@ -16,15 +16,6 @@ use Rattle.layout.specs.Places.{labelsAt, rowsAt, recordsAt}
 use Rattle.layout.specs.Written.{labelBytes, rowBytes, recordBytes}
 use Rattle.layout.specs.Fits.{LabelFits, RowFits, RecordFits, TableFits}
 use Rattle.layout.proofs.EntryLaws.{label-wide, row-wide, record-wide}
-
--- What holds below i and at i holds below i + 1.
-below-more : (P : ℕ → Type 0) (i : ℕ) → ((k : ℕ) → k < i → P k) → P i → (k : ℕ) → k < i + 1 → P k
-below-more P i h p k m = go (against k i)
-  where
-    go : Against k i → P k
-    go (less l) = h k l
-    go (equal q) = subst P (sym q) p
-    go (more l) = absurd (omega arith)
 
 -- A table whose entries fit.
 table-fits : {A : Type 0} (Fits : A → Type 0) (f : ℕ → A) (i : ℕ) (l : List A) (d : A) → tabulate i f ≡ l → ((k : ℕ) → k < i → Fits (f k)) → TableFits i d Fits l
@@ -41,7 +32,7 @@ pub record Put {A : Type 0} (entry : A → List ℕ) (Fits : A → Type 0) (f : 
 module _ {A : Type 0} (entry : A → List ℕ) (Fits : A → Type 0) (f : ℕ → A) (before : List ℕ) (at : ℕ) where
   pub put-none : Put entry Fits f before at before 0
   unfolding tabulate flatMap
-  put-none = record { stands = refl; fits = λ k h. absurd (omega arith) }
+  put-none = record { stands = refl; fits = below-none (λ k. Fits (f k)) }
 
   module _ (after : List ℕ) (i : ℕ) (p : Put entry Fits f before at after i) where
     pub put-length : length after ≡ length before
@@ -69,7 +60,12 @@ pub record Placed (labels : ℕ → Label) (rows : ℕ → Row) (records : ℕ �
 module _ (labels : ℕ → Label) (rows : ℕ → Row) (records : ℕ → Record) (before : List ℕ) where
   pub placed-none : Placed labels rows records before before 0
   unfolding tabulate flatMap
-  placed-none = record { stands = refl; label-fits = λ k h. absurd (omega arith); row-fits = λ k h. absurd (omega arith); record-fits = λ k h. absurd (omega arith) }
+  placed-none = record {
+    stands = refl;
+    label-fits = below-none (λ k. LabelFits (labels k));
+    row-fits = below-none (λ k. RowFits (rows k));
+    record-fits = below-none (λ k. RecordFits (records k));
+  }
 
   module _ (after : List ℕ) (i : ℕ) (p : Placed labels rows records before after i) where
     L : List ℕ
