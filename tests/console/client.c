@@ -729,6 +729,33 @@ static void test_hand_written(void)
     free(d);
 }
 
+/* A reply that is taken: another successor stays where the new label, here (2, 1/2), is above its stored one, and leaves where not. */
+static void check_other_successor(uint64_t stored_s, unsigned left)
+{
+    struct desk *d = example_after(7);
+    uint8_t *row = d->memory + SRP_ROW_AT(2, 0);
+    uint8_t *last = row + SRP_ROW_ENTRIES + SRP_ENTRY_BYTES * left;
+
+    put_label(d->memory + SRP_LABEL_AT(2, 0), 1, 2, 3);
+    row[SRP_ROW_COUNT] = 1;
+    row[SRP_ROW_ENTRIES + SRP_ENTRY_STATION] = 0;
+    put_label(row + SRP_ROW_ENTRIES + SRP_ENTRY_LABEL, stored_s, 0, 1);
+    put_label(d->memory + SRP_PACKET_AT(0) + SRP_PACKET_LABEL, 2, 0, 1);
+    CHECK_EQ(call_on(d, (struct call){SRP_EVENT_DELIVER, 0, 0}, LENT, OUT), result(SRP_REPLY_TAKEN, 0));
+    CHECK_LABEL(d->memory + SRP_LABEL_AT(2, 0), 2, 1, 2);
+    CHECK_EQ(row[SRP_ROW_COUNT], left + 1);
+    CHECK_EQ(last[SRP_ENTRY_STATION], 1);
+    CHECK_LABEL(last + SRP_ENTRY_LABEL, 2, 0, 1);
+    check_left(__LINE__, d);
+    free(d);
+}
+
+static void test_other_successors(void)
+{
+    check_other_successor(1, 0);
+    check_other_successor(3, 1);
+}
+
 /* ---- New label ------------------------------------------------------------------------------ */
 
 struct label {
@@ -1155,6 +1182,20 @@ static void test_air_full(void)
     CHECK_EQ(call_on(d, (struct call){SRP_EVENT_DELIVER, 5, 0}, LENT, OUT), result(SRP_REQUEST_ANSWERED, 1));
     CHECK_EQ(srp_air(d->memory, LENT), result(SRP_DONE, SRP_MAX_PACKETS));
     check_left(__LINE__, d);
+    free(d);
+}
+
+/* A count of 129 has no meaning, also where a packet stands in the bytes right after the layout. */
+static void test_air_over_full(void)
+{
+    struct desk *d = example_after(3);
+
+    fill_air(d, SRP_MAX_PACKETS);
+    memcpy(d->memory + SRP_LENGTH, d->memory + SRP_PACKET_AT(0), SRP_PACKET_BYTES);
+    d->memory[SRP_AIR_AT] = SRP_MAX_PACKETS + 1;
+    CHECK_EQ(srp_air(d->memory, LENT), SRP_OUT_OF_RANGE);
+    CHECK_REFUSED(d, SRP_OUT_OF_RANGE, SRP_EVENT_LOSE, SRP_MAX_PACKETS, 0);
+    CHECK_REFUSED(d, SRP_OUT_OF_RANGE, SRP_EVENT_UP, 0, 2);
     free(d);
 }
 
@@ -1642,6 +1683,7 @@ int main(int argc, char **argv)
     test_square();
     test_other_calls();
     test_hand_written();
+    test_other_successors();
     test_new_label();
     test_splits();
     test_reading();
@@ -1653,6 +1695,7 @@ int main(int argc, char **argv)
     test_no_station();
     test_not_as_it_stands();
     test_air_full();
+    test_air_over_full();
     test_air_full_for_down();
     test_numbers_used_up();
     test_no_room();
