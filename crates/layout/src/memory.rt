@@ -26,11 +26,9 @@ use crate::places::NUMBERS_AT;
 use crate::places::RECORDS_AT;
 use crate::places::ROWS_AT;
 use crate::places::SOUGHT_AT;
-use crate::stations::put_active;
-use crate::stations::put_links;
+use crate::stations::put_flags;
 use crate::stations::put_numbers;
-use crate::stations::read_active;
-use crate::stations::read_links;
+use crate::stations::read_flags;
 use crate::stations::read_numbers;
 use crate::stations::read_sought;
 use codec::put_byte;
@@ -89,8 +87,10 @@ pub fn read(bytes: &[u8]) -> Memory
     let air = read_air(bytes, AIR_AT);
     let numbers = read_numbers(bytes, NUMBERS_AT);
     let sought = read_sought(bytes, SOUGHT_AT);
-    let active = read_active(bytes, ACTIVE_AT);
-    let links = read_links(bytes, LINKS_AT);
+    let mut active = [false; 16];
+    read_flags(bytes, ACTIVE_AT, &mut active);
+    let mut links = [false; 256];
+    read_flags(bytes, LINKS_AT, &mut links);
     let n = bytes[0];
     Memory {
         s: s,
@@ -123,8 +123,8 @@ fn write_head(
     put_byte(out, 0, n);
     put_numbers(out, NUMBERS_AT, numbers);
     put_bytes(out, SOUGHT_AT, &sought);
-    put_active(out, ACTIVE_AT, active);
-    put_links(out, LINKS_AT, links);
+    put_flags(out, ACTIVE_AT, &active);
+    put_flags(out, LINKS_AT, &links);
 }
 
 // The memory's bytes at the start of the lent array; the others are kept. One loop writes the labels, rows and records from where they stand.

@@ -56,52 +56,25 @@ pub fn read_sought(bytes: &[u8], at: usize) -> [u8; 16]
     sought
 }
 
-// Who is active.
-pub fn read_active(bytes: &[u8], at: usize) -> [bool; 16]
-    requires { ⌜ at + 16 ≤ length (now bytes) ⌝ }
-    ensures { λ r. ⌜ r ≡ tableAt storedFlag 1 16 (now (bytes .entry)) at ⌝ }
-{
-    let mut active = [false; 16];
-    let mut i = 0;
-    while i < 16 {
-        active[i] = bytes[at + i] == 1;
-        i += 1;
-    }
-    active
-}
-
-pub fn put_active(out: &mut [u8], at: usize, active: [bool; 16])
-    requires { ⌜ at + 16 ≤ length (now out) ⌝ }
-    ensures { λ _. ⌜ (now (out .exit) ≡ sets (now (out .entry)) at (map flag active)) × (length active ≡ 16) ⌝ }
+// The flags from a place on, a byte each, in all places of the lent array.
+pub fn read_flags(bytes: &[u8], at: usize, flags: &mut [bool])
+    requires { ⌜ at + length (now flags) ≤ length (now bytes) ⌝ }
+    ensures { λ _. ⌜ now (flags .exit) ≡ tableAt storedFlag 1 (length (now (flags .entry))) (now (bytes .entry)) at ⌝ }
 {
     let mut i = 0;
-    while i < 16 {
-        out[at + i] = flag(active[i]);
+    while i < flags.len() {
+        flags[i] = bytes[at + i] == 1;
         i += 1;
     }
 }
 
-// The links.
-pub fn read_links(bytes: &[u8], at: usize) -> [bool; 256]
-    requires { ⌜ at + 256 ≤ length (now bytes) ⌝ }
-    ensures { λ r. ⌜ r ≡ tableAt storedFlag 1 256 (now (bytes .entry)) at ⌝ }
-{
-    let mut links = [false; 256];
-    let mut i = 0;
-    while i < 256 {
-        links[i] = bytes[at + i] == 1;
-        i += 1;
-    }
-    links
-}
-
-pub fn put_links(out: &mut [u8], at: usize, links: [bool; 256])
-    requires { ⌜ at + 256 ≤ length (now out) ⌝ }
-    ensures { λ _. ⌜ (now (out .exit) ≡ sets (now (out .entry)) at (map flag links)) × (length links ≡ 256) ⌝ }
+pub fn put_flags(out: &mut [u8], at: usize, flags: &[bool])
+    requires { ⌜ at + length (now flags) ≤ length (now out) ⌝ }
+    ensures { λ _. ⌜ now (out .exit) ≡ sets (now (out .entry)) at (map flag (now (flags .entry))) ⌝ }
 {
     let mut i = 0;
-    while i < 256 {
-        out[at + i] = flag(links[i]);
+    while i < flags.len() {
+        out[at + i] = flag(flags[i]);
         i += 1;
     }
 }

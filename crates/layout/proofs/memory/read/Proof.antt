@@ -113,11 +113,17 @@ read-numbers-requires c κs = search needs
 read-sought-requires : tie.Need-read-sought-requires Inv-loop μ-loop
 read-sought-requires c κs = search needs
 
-read-active-requires : tie.Need-read-active-requires Inv-loop μ-loop
-read-active-requires c κs = search needs
+slice-aggregate-read-flags : tie.Need-slice-aggregate-read-flags Inv-loop μ-loop
+slice-aggregate-read-flags c = search needs
 
-read-links-requires : tie.Need-read-links-requires Inv-loop μ-loop
-read-links-requires c κs = search needs
+read-flags-requires : tie.Need-read-flags-requires Inv-loop μ-loop
+read-flags-requires c κs = search needs
+
+slice-aggregate-read-flags-2 : tie.Need-slice-aggregate-read-flags-2 Inv-loop μ-loop
+slice-aggregate-read-flags-2 c = search needs
+
+read-flags-requires-2 : tie.Need-read-flags-requires-2 Inv-loop μ-loop
+read-flags-requires-2 c κs = search needs
 
 shared-slice-read-n : tie.Need-shared-slice-read-n Inv-loop μ-loop
 shared-slice-read-n c = search needs
@@ -125,9 +131,9 @@ shared-slice-read-n c = search needs
 returns : tie.Need-returns Inv-loop μ-loop
 unfolding storedMemory tableAt
 returns c =
-    let links = c .before in
-    let active = links .before in
-    let sought = active .before in
+    let links = c .before .before in
+    let active = links .before .before .before in
+    let sought = active .before .before in
     let numbers = sought .before in
     let air = numbers .before in
     let loop = air .before .before .loop in
@@ -136,7 +142,7 @@ returns c =
     let d = filled-all _ _ (loop .d) (loop .i) (loop .inv .3) (omega arith) in
     let rows = filled-all _ _ (loop .rows) (loop .i) (loop .inv .4) (omega arith) in
     let records = filled-all _ _ (loop .records) (loop .i) (loop .inv .5) (omega arith) in
-    rw (s, m, d, rows, records, air .read-air .ensures, numbers .read-numbers .ensures, sought .read-sought .ensures, active .read-active .ensures, links .read-links .ensures)
+    rw (s, m, d, rows, records, air .read-air .ensures, numbers .read-numbers .ensures, sought .read-sought .ensures, active .read-flags .ensures, links .read-flags2 .ensures)
 
 pub read-spec : {M : Type 1} → statement M
 read-spec =
@@ -172,7 +178,9 @@ read-spec =
     read-air-requires
     read-numbers-requires
     read-sought-requires
-    read-active-requires
-    read-links-requires
+    slice-aggregate-read-flags
+    read-flags-requires
+    slice-aggregate-read-flags-2
+    read-flags-requires-2
     shared-slice-read-n
     returns)

@@ -19,11 +19,17 @@ slice-aggregate-put-bytes c = search needs
 put-bytes-requires : tie.Need-put-bytes-requires
 put-bytes-requires c κs = search needs
 
-put-active-requires : tie.Need-put-active-requires
-put-active-requires c κs = search needs
+slice-aggregate-put-flags : tie.Need-slice-aggregate-put-flags
+slice-aggregate-put-flags c = search needs
 
-put-links-requires : tie.Need-put-links-requires
-put-links-requires c κs = search needs
+put-flags-requires : tie.Need-put-flags-requires
+put-flags-requires c κs = search needs
+
+slice-aggregate-put-flags-2 : tie.Need-slice-aggregate-put-flags-2
+slice-aggregate-put-flags-2 c = search needs
+
+put-flags-requires-2 : tie.Need-put-flags-requires-2
+put-flags-requires-2 c κs = search needs
 
 same-length : tie.Need-same-length
 same-length c = search needs
@@ -31,17 +37,17 @@ same-length c = search needs
 returns : tie.Need-returns
 returns c =
     let fifth = c .before .before in
-    let fourth = fifth .before .before .before .before in
-    let third = fourth .before .before .before .before in
+    let fourth = fifth .before .before .before .before .before in
+    let third = fourth .before .before .before .before .before in
     let second = third .before .before .before .before .before in
     let first = second .before .before .before .before in
     let start = first .before .before .before in
     let args = start .args in
     let numbers = map (λ k. k .0) (args .numbers) in
-    let fits : HeadFits numbers (args .t4) (args .active) (args .links) =
-    record { numbers-fit = second .put-numbers .ensures .1; sought-long = start .good .1 .1 .1 .0 .1 .0 .1; active-long = fourth .put-active .ensures .1; links-long = fifth .put-links .ensures .1 } in (
-      fifth .put-links .ensures .0 ∙ rw (fourth .put-active .ensures .0, third .put-bytes .ensures, second .put-numbers .ensures .0, first .put-byte .ensures)
-          (head-put (args .n) numbers (args .t4) (args .active) (args .links) fits (args .out .now)),
+    let fits : HeadFits numbers (args .t4) (args .t5) (args .t6) =
+    record { numbers-fit = second .put-numbers .ensures .1; sought-long = start .good .1 .1 .1 .0 .1 .0 .1; active-long = start .good .1 .1 .1 .1 .0 .1 .0 .1; links-long = start .good .1 .1 .1 .1 .1 .0 .1 .0 .1 } in (
+      fifth .put-flags2 .ensures ∙ rw (fourth .put-flags .ensures, third .put-bytes .ensures, second .put-numbers .ensures .0, first .put-byte .ensures)
+          (head-put (args .n) numbers (args .t4) (args .t5) (args .t6) fits (args .out .now)),
       fits,
     )
 
@@ -53,7 +59,9 @@ write-head-spec =
     put-numbers-requires
     slice-aggregate-put-bytes
     put-bytes-requires
-    put-active-requires
-    put-links-requires
+    slice-aggregate-put-flags
+    put-flags-requires
+    slice-aggregate-put-flags-2
+    put-flags-requires-2
     same-length
     returns)
