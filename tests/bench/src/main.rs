@@ -1,0 +1,245 @@
+//! The speed of the proved library beside the Rust build, both built for release, on the same inputs in one run. Prints tables in
+//! Markdown.
+//!
+//! Each round times one build and then the other; the table has the median of the rounds, and the ratio of each round from the lowest
+//! to the highest.
+
+use differential::calls::{answer_of, by_library, by_reference, call_of, Call};
+use differential::program::root;
+use differential::random::Random;
+use differential::scripts::{styled, Script, STYLES};
+use reference::label::{Label, UNASSIGNED};
+use reference::network::{Bytes, Network, LENGTH};
+use reference::script::MAX_EVENTS;
+use std::hint::black_box;
+use std::io::Write;
+use std::path::Path;
+use std::process::{Command, Stdio};
+use std::time::Instant;
+
+const ROUNDS: usize = 15;
+
+/// Nanoseconds for each thing done, of each build, in each round.
+#[derive(Default)]
+struct Times {
+    library: Vec<f64>,
+    reference: Vec<f64>,
+}
+
+fn sorted(values: impl Iterator<Item = f64>) -> Vec<f64> {
+    let mut values: Vec<f64> = values.collect();
+    values.sort_by(f64::total_cmp);
+    values
+}
+
+impl Times {
+    /// Rounds of both, one after the other; the first is left out.
+    fn of(mut round: impl FnMut() -> (f64, f64)) -> Times {
+        let mut times = Times::default();
+        round();
+        for _ in 0..ROUNDS {
+            let (library, reference) = round();
+            times.library.push(library);
+            times.reference.push(reference);
+        }
+        times
+    }
+
+    fn print(&self, what: &str) {
+        let median = |values: &[f64]| sorted(values.iter().copied())[ROUNDS / 2];
+        let ratios = sorted(self.library.iter().zip(&self.reference).map(|(a, b)| a / b));
+        println!(
+            "| {what} | {:.0} | {:.1} | {:.1} | {:.1} to {:.1} |",
+            median(&self.library),
+            median(&self.reference),
+            ratios[ROUNDS / 2],
+            ratios[0],
+            ratios[ROUNDS - 1]
+        );
+        eprintln!("bench: {what}");
+    }
+}
+
+fn heading(title: &str) {
+    println!("\n{title}\n\n| | Library | Rust build | Ratio | in {ROUNDS} rounds |\n|---|---|---|---|---|");
+}
+
+/// Nanoseconds for each of so many.
+fn timed(count: usize, work: impl FnOnce()) -> f64 {
+    let began = Instant::now();
+    work();
+    began.elapsed().as_nanos() as f64 / count as f64
+}
+
+// ---- The rehearsal programs
+
+/// A whole run of a program, from its start to its end.
+fn run_program(program: &Path, script: &[u8]) {
+    let mut child = Command::new(program).stdin(Stdio::piped()).stdout(Stdio::null()).spawn().expect("the program starts");
+    child.stdin.take().unwrap().write_all(script).unwrap();
+    assert!(child.wait().unwrap().success());
+}
+
+/// Nanoseconds for each event: a run of the script, less a run of a script of no event.
+fn per_event(program: &Path, script: &Script) -> f64 {
+    const RUNS: usize = 8;
+    let none = Script { kinds: vec![], operands: vec![], ..script.clone() };
+    let [all, none] = [script, &none].map(|script| {
+        let bytes = script.bytes();
+        timed(RUNS, || (0..RUNS).for_each(|_| run_program(program, &bytes)))
+    });
+    (all - none) / script.kinds.len() as f64
+}
+
+fn bench_programs(scripts: &[(String, Script)]) {
+    let library = root().join("target/bin/rehearse");
+    let reference = root().join("target/cargo/release/rehearse");
+    heading("Nanoseconds for each event of a rehearsal: a whole run of the program, less one of a script of no event, printing included.");
+    for (what, script) in scripts {
+        Times::of(|| (per_event(&library, script), per_event(&reference, script))).print(what);
+    }
+}
+
+// ---- Console calls
+
+type Make = fn(Call, &mut [u8], &mut [u8]) -> u64;
+
+/// The events of a script as console calls, on one memory from Open on.
+fn calls_of(make: Make, script: &Script) -> f64 {
+    let mut memory = vec![0; LENGTH];
+    timed(script.kinds.len(), || {
+        make(Call::Open(script.n, script.start), &mut memory, &mut []);
+        for (_, kind, a, b) in script.events() {
+            black_box(make(call_of(kind, a, b), &mut memory, &mut []));
+        }
+    })
+}
+
+fn bench_scripts_by_calls(scripts: &[(String, Script)]) {
+    heading("Nanoseconds for each console call, where a script's events are made as calls on one slice.");
+    for (what, script) in scripts {
+        Times::of(|| (calls_of(by_library, script), calls_of(by_reference, script))).print(what);
+    }
+}
+
+/// One call, each time on the same bytes: they are copied before the call, and the copy's time is taken off.
+fn calls_on(make: Make, network: &[u8], call: Call) -> f64 {
+    const CALLS: usize = 2_000;
+    let mut memory = network.to_vec();
+    let mut out = [0; 100];
+    let copied = timed(CALLS, || (0..CALLS).for_each(|_| black_box(&mut memory).copy_from_slice(black_box(network))));
+    let all = timed(CALLS, || {
+        for _ in 0..CALLS {
+            black_box(&mut memory).copy_from_slice(black_box(network));
+            black_box(make(black_box(call), &mut memory, &mut out));
+        }
+    });
+    all - copied
+}
+
+/// The network after events of a script, before the first that is answered so.
+fn before_answer(script: &Script, kind: u8, answer: u32) -> (Vec<u8>, Call) {
+    let mut network = Network::fresh(script.n, script.start);
+    for (_, its_kind, a, b) in script.events() {
+        let before = *network;
+        let its_answer = network.event(its_kind, a, b);
+        if its_kind == kind && its_answer.map_or_else(|number| number, |done| done.outcome) == answer && before.in_air > 30 {
+            return (before.bytes().to_vec(), call_of(kind, a, b));
+        }
+    }
+    panic!("no event of kind {kind} is answered {answer}")
+}
+
+fn bench_calls(busy: &Script) {
+    use reference::script::{DELIVER, DOWN, DUPLICATE, EXPIRE, GIVE_UP, LOSE, SOLICIT, TRACE, UP};
+    heading("Nanoseconds for each console call, by its answer, in networks of 16 stations with over 30 packets in the air.");
+    let calls = [
+        ("Deliver, a request that is known (101)", DELIVER, 101),
+        ("Deliver, a request that is answered (102)", DELIVER, 102),
+        ("Deliver, a request that is sent on (103)", DELIVER, 103),
+        ("Deliver, a reply to no request (111)", DELIVER, 111),
+        ("Deliver, a reply that is taken (115)", DELIVER, 115),
+        ("Deliver, an error (121)", DELIVER, 121),
+        ("Deliver, an error that empties rows (123)", DELIVER, 123),
+        ("Up", UP, 0),
+        ("Down", DOWN, 0),
+        ("Solicit", SOLICIT, 0),
+        ("Give up", GIVE_UP, 0),
+        ("Expire", EXPIRE, 0),
+        ("Lose", LOSE, 0),
+        ("Duplicate", DUPLICATE, 0),
+        ("Trace that arrives (131)", TRACE, 131),
+        ("Up, turned down (3)", UP, 3),
+    ];
+    for (what, kind, answer) in calls {
+        let (network, call) = before_answer(busy, kind, answer);
+        assert_eq!(answer_of(by_library(call, &mut network.clone(), &mut [])), answer);
+        Times::of(|| (calls_on(by_library, &network, call), calls_on(by_reference, &network, call))).print(what);
+    }
+    let (network, _) = before_answer(busy, DELIVER, 103);
+    for (what, call) in [("Open", Call::Open(16, 1)), ("Size", Call::Size), ("Row", Call::Row(3, 0)), ("Packet", Call::Packet(7))] {
+        Times::of(|| (calls_on(by_library, &network, call), calls_on(by_reference, &network, call))).print(what);
+    }
+}
+
+// ---- New label and scripts
+
+fn label_times(new_label: fn(Label, Label, Label) -> u64, triples: &[[Label; 3]]) -> f64 {
+    const TURNS: usize = 50;
+    timed(TURNS * triples.len(), || {
+        for _ in 0..TURNS {
+            for &[own, cached, advertised] in black_box(triples) {
+                black_box(new_label(own, cached, advertised));
+            }
+        }
+    })
+}
+
+fn bench_labels() {
+    heading("Nanoseconds for each New label, over 4,096 triples of labels.");
+    let mut random = Random::new(1);
+    let split = [UNASSIGNED, Label::new(1, 2, 3), Label::new(1, 1, 2)];
+    let mut some = || {
+        let mut label = || {
+            let d = random.between(2, 1 << 30) as u32;
+            Label::new(random.between(1, 2) as u64, random.below(d as usize) as u32, d)
+        };
+        [label(), label(), label()]
+    };
+    let mixed: Vec<_> = (0..4096).map(|_| some()).collect();
+    for (what, triples) in [("always a split", vec![split; 4096]), ("random labels", mixed)] {
+        Times::of(|| (label_times(library::new_label, &triples), label_times(reference::console::new_label, &triples))).print(what);
+    }
+}
+
+fn bench_script_bytes(script: &Script) {
+    const TURNS: usize = 200;
+    heading("Nanoseconds for each event of a script of 4,096 that is read or written; the arrays are not cleared.");
+    let bytes = script.bytes();
+    let mut arrays = (vec![0; 4096], vec![0; 8192]);
+    let mut read = |read: fn(&[u8], &mut [u8], &mut [u8]) -> u64| {
+        timed(TURNS * script.kinds.len(), || {
+            (0..TURNS).for_each(|_| assert_eq!(answer_of(read(black_box(&bytes), &mut arrays.0, &mut arrays.1)), 0))
+        })
+    };
+    Times::of(|| (read(library::read_script), read(reference::console::read_script))).print("read");
+    let mut out = vec![0; bytes.len()];
+    let mut write = |write: fn(usize, u64, &[u8], &[u8], &mut [u8]) -> u64| {
+        timed(TURNS * script.kinds.len(), || {
+            (0..TURNS)
+                .for_each(|_| assert_eq!(answer_of(write(script.n, script.start, black_box(&script.kinds), &script.operands, &mut out)), 0))
+        })
+    };
+    Times::of(|| (write(library::write_script), write(reference::console::write_script))).print("written");
+}
+
+fn main() {
+    let of = |style: usize, n: usize| styled(&mut Random::new(style as u64), &STYLES[style], n, 1, MAX_EVENTS);
+    let mut scripts: Vec<_> = (0..STYLES.len()).map(|style| (format!("16 stations, {}", STYLES[style].name), of(style, 16))).collect();
+    scripts.push((format!("4 stations, {}", STYLES[0].name), of(0, 4)));
+    bench_programs(&scripts);
+    bench_scripts_by_calls(&scripts);
+    bench_calls(&scripts[2].1);
+    bench_labels();
+    bench_script_bytes(&scripts[0].1);
+}

@@ -1,0 +1,228 @@
+//! Calls on memory, each made on both builds, and what differs.
+
+use reference::calls::Answer;
+use reference::network::{Network, Packet, Record, Row, LENGTH};
+use reference::printout::put_event;
+use reference::script;
+use std::mem::{offset_of, size_of};
+
+/// Every function of include/srp.h that takes memory.
+#[derive(Clone, Copy, PartialEq, Eq, Debug)]
+pub enum Call {
+    Open(usize, u64),
+    Up(usize, usize),
+    Down(usize, usize),
+    Solicit(usize, usize),
+    GiveUp(usize),
+    Expire(usize, usize),
+    Deliver(usize),
+    Lose(usize),
+    Duplicate(usize),
+    Trace(usize, usize),
+    Size,
+    Air,
+    Link(usize, usize),
+    Label(usize, usize),
+    Row(usize, usize),
+    Record(usize, usize),
+    Station(usize),
+    Packet(usize),
+}
+
+/// The call by one of the builds, whose functions have the same names.
+macro_rules! made_by {
+    ($name:ident: $($build:ident)::+) => {
+        pub fn $name(call: Call, memory: &mut [u8], out: &mut [u8]) -> u64 {
+            use $($build)::+ as build;
+            match call {
+                Call::Open(n, start) => build::open(memory, n, start),
+                Call::Up(a, b) => build::up(memory, a, b),
+                Call::Down(a, b) => build::down(memory, a, b),
+                Call::Solicit(a, t) => build::solicit(memory, a, t),
+                Call::GiveUp(a) => build::give_up(memory, a),
+                Call::Expire(a, t) => build::expire(memory, a, t),
+                Call::Deliver(k) => build::deliver(memory, k),
+                Call::Lose(k) => build::lose(memory, k),
+                Call::Duplicate(k) => build::duplicate(memory, k),
+                Call::Trace(a, t) => build::trace(memory, a, t),
+                Call::Size => build::size(memory),
+                Call::Air => build::air(memory),
+                Call::Link(a, b) => build::link(memory, a, b),
+                Call::Label(i, t) => build::label(memory, i, t, out),
+                Call::Row(i, t) => build::row(memory, i, t, out),
+                Call::Record(i, source) => build::record(memory, i, source, out),
+                Call::Station(i) => build::station(memory, i, out),
+                Call::Packet(k) => build::packet(memory, k, out),
+            }
+        }
+    };
+}
+
+made_by!(by_library: library);
+made_by!(by_reference: reference::console);
+
+/// The call of an event.
+pub fn call_of(kind: u8, a: u8, b: u8) -> Call {
+    let (a, b) = (usize::from(a), usize::from(b));
+    match kind {
+        script::UP => Call::Up(a, b),
+        script::DOWN => Call::Down(a, b),
+        script::SOLICIT => Call::Solicit(a, b),
+        script::GIVE_UP => Call::GiveUp(a),
+        script::EXPIRE => Call::Expire(a, b),
+        script::DELIVER => Call::Deliver(a),
+        script::LOSE => Call::Lose(a),
+        script::DUPLICATE => Call::Duplicate(a),
+        _ => Call::Trace(a, b),
+    }
+}
+
+pub fn answer_of(result: u64) -> u32 {
+    result as u32
+}
+
+pub fn count_of(result: u64) -> u32 {
+    (result >> 32) as u32
+}
+
+fn is_refused(result: u64) -> bool {
+    (1..=12).contains(&answer_of(result))
+}
+
+/// Longer than anything that a call shows.
+pub const OUT: usize = 100;
+
+/// The same bytes twice, one slice for each build, and an output slice for each.
+pub struct Desk {
+    library: Vec<u8>,
+    reference: Vec<u8>,
+    before: Vec<u8>,
+    library_out: [u8; OUT],
+    reference_out: [u8; OUT],
+}
+
+const UNUSED: u8 = 0x5a;
+
+impl Desk {
+    pub fn new(bytes: &[u8]) -> Desk {
+        Desk {
+            library: bytes.to_vec(),
+            reference: bytes.to_vec(),
+            before: bytes.to_vec(),
+            library_out: [UNUSED; OUT],
+            reference_out: [UNUSED; OUT],
+        }
+    }
+
+    /// The memory that both have after a call in which nothing differed.
+    pub fn memory(&self) -> &[u8] {
+        &self.library
+    }
+
+    pub fn network(&self) -> &Network {
+        Network::of(&self.reference).unwrap()
+    }
+
+    fn begin(&mut self) {
+        self.before.copy_from_slice(&self.library);
+        self.library_out = [UNUSED; OUT];
+        self.reference_out = [UNUSED; OUT];
+    }
+
+    /// A call on both builds. The result that both gave, or what differs.
+    pub fn call(&mut self, call: Call, out_length: usize) -> Result<u64, String> {
+        self.begin();
+        let result = by_library(call, &mut self.library, &mut self.library_out[..out_length]);
+        let wanted = by_reference(call, &mut self.reference, &mut self.reference_out[..out_length]);
+        if result != wanted {
+            return Err(format!("{call:?}: the library gives {}, the Rust build {}", shown(result), shown(wanted)));
+        }
+        self.compare(result).map_err(|what| format!("{call:?}, result {}: {what}", shown(result)))?;
+        Ok(result)
+    }
+
+    /// An event of a script, by the library's entry point and in place by the Rust build, which has no range test here.
+    pub fn event(&mut self, index: usize, kind: u8, a: u8, b: u8) -> Result<u64, String> {
+        self.begin();
+        let result = by_library(call_of(kind, a, b), &mut self.library, &mut []);
+        let network = Network::of_mut(&mut self.reference).unwrap();
+        let answer = network.event(kind, a, b);
+        let wanted_line = line(index, kind, a, b, answer, network.in_air);
+        let line = line(index, kind, a, b, told(kind, result), Network::of(&self.library).unwrap().in_air);
+        if line != wanted_line {
+            return Err(format!("the library's line and the Rust build's:\n{line}{wanted_line}"));
+        }
+        self.compare(result).map_err(|what| format!("the memory after this event:\n{line}{what}"))?;
+        Ok(result)
+    }
+
+    /// Whether all bytes are the same, and as before where the call was turned down.
+    fn compare(&self, result: u64) -> Result<(), String> {
+        if is_refused(result) && (self.library != self.before || self.library_out != [UNUSED; OUT]) {
+            return Err("it was turned down, and the library wrote".into());
+        }
+        if self.library != self.reference {
+            return Err(difference(&self.library, &self.reference));
+        }
+        if self.library_out != self.reference_out {
+            return Err(format!("shown: the library has {:02x?}, the Rust build {:02x?}", self.library_out, self.reference_out));
+        }
+        Ok(())
+    }
+}
+
+fn shown(result: u64) -> String {
+    format!("answer {} and count {}", answer_of(result), count_of(result))
+}
+
+/// A result read as an event's answer.
+fn told(kind: u8, result: u64) -> Answer {
+    if is_refused(result) {
+        return Err(answer_of(result));
+    }
+    let (sent, hops) = if kind == script::TRACE { (0, count_of(result)) } else { (count_of(result), 0) };
+    Ok(reference::calls::Done { outcome: answer_of(result), sent, hops })
+}
+
+fn line(index: usize, kind: u8, a: u8, b: u8, answer: Answer, in_air: u8) -> String {
+    let mut out = Vec::new();
+    put_event(&mut out, index, kind, a, b, answer, in_air);
+    String::from_utf8(out).unwrap()
+}
+
+/// The first byte that differs, by the layout's name for its place.
+fn difference(library: &[u8], reference: &[u8]) -> String {
+    let at = library.iter().zip(reference).position(|(a, b)| a != b).unwrap();
+    format!("{}: the library has {}, the Rust build {}", place(at), library[at], reference[at])
+}
+
+/// What a byte of the layout belongs to.
+pub fn place(at: usize) -> String {
+    /// Tables: name, first byte, bytes of an entry, and whether it is held by one station for another.
+    const TABLES: [(&str, usize, usize, bool); 9] = [
+        ("n", offset_of!(Network, n), 1, false),
+        ("last request number", offset_of!(Network, numbers), 4, false),
+        ("destination last sought", offset_of!(Network, sought), 1, false),
+        ("active", offset_of!(Network, active), 1, false),
+        ("link", offset_of!(Network, links), 1, true),
+        ("label", offset_of!(Network, labels), 16, true),
+        ("row", offset_of!(Network, rows), size_of::<Row>(), true),
+        ("record", offset_of!(Network, records), size_of::<Record>(), true),
+        ("packets in the air", offset_of!(Network, in_air), 1, false),
+    ];
+    let packets = offset_of!(Network, packets);
+    if at >= LENGTH {
+        return format!("byte {at}, past the layout");
+    }
+    if at >= packets {
+        let (k, byte) = ((at - packets) / size_of::<Packet>(), (at - packets) % size_of::<Packet>());
+        return format!("packet {k}, its byte {byte}");
+    }
+    let (name, first, size, for_another) = *TABLES.iter().rfind(|table| at >= table.1).unwrap();
+    let (entry, byte) = ((at - first) / size, (at - first) % size);
+    if for_another {
+        format!("{name} of {} for {}, its byte {byte}", entry / 16, entry % 16)
+    } else {
+        format!("{name} {entry}, its byte {byte}")
+    }
+}

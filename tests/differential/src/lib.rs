@@ -1,0 +1,10 @@
+//! Differential tests: the proved library, through its C entry points, and the rehearsal program against the Rust build.
+
+pub mod calls;
+pub mod labels;
+pub mod networks;
+pub mod program;
+pub mod random;
+pub mod script_bytes;
+pub mod scripts;
+pub mod tally;

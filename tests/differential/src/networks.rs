@@ -1,0 +1,307 @@
+//! Memory that no list of calls makes: random networks in range, damaged ones, and slices of other lengths.
+
+use crate::calls::{answer_of, Call, Desk, OUT};
+use crate::random::Random;
+use crate::scripts::{script_of, Script};
+use crate::tally::Tally;
+use reference::label::{Label, UNASSIGNED};
+use reference::network::{
+    Bytes, Network, Packet, Record, Row, Successor, ERROR, LENGTH, MAX_PACKETS, MAX_STATIONS, MAX_SUCCESSORS, NO_PACKET, NO_ROW, REPLY,
+    REQUEST,
+};
+use std::mem::{offset_of, size_of};
+
+/// The numbers that a network's labels are made of: few, so that equal and neighbouring ones meet.
+struct Palette {
+    s: [u64; 3],
+    d: [u32; 4],
+}
+
+impl Palette {
+    fn new(random: &mut Random) -> Palette {
+        let s = match random.below(4) {
+            0 | 1 => [1, 2, 3],
+            2 => [u64::MAX - 1, u64::MAX, u64::MAX],
+            _ => [1, random.number().max(1), u64::MAX],
+        };
+        let d = match random.below(4) {
+            0 | 1 => [1, 2, 3, 4],
+            2 => [2, u32::MAX / 2, u32::MAX / 2 + 1, u32::MAX / 2 + 2],
+            _ => [1, 2, u32::MAX - 1, u32::MAX],
+        };
+        Palette { s, d }
+    }
+
+    /// A label of a station for another: any in range.
+    fn label(&self, random: &mut Random) -> Label {
+        if random.percent(20) {
+            return UNASSIGNED;
+        }
+        let d = random.of(&self.d);
+        let m = match random.below(3) {
+            0 => 0,
+            1 => d - 1,
+            _ => random.below(d as usize) as u32,
+        };
+        Label::new(random.of(&self.s), m, d)
+    }
+
+    fn own_label(&self, random: &mut Random) -> Label {
+        Label::new(random.of(&self.s), 0, 1)
+    }
+}
+
+/// Request numbers: few, and the last that there are.
+fn some_number(random: &mut Random) -> u32 {
+    random.of(&[0, 1, 2, 3, u32::MAX - 1, u32::MAX])
+}
+
+fn some_row(random: &mut Random, palette: &Palette, n: usize, holder: usize) -> Row {
+    let mut row = NO_ROW;
+    for _ in 0..random.between(0, MAX_SUCCESSORS) {
+        let station = random.below(n);
+        if station != holder {
+            row.put(Successor { station: station as u8, label: palette.label(random) });
+        }
+    }
+    row
+}
+
+/// A packet in range. A reply mostly tells of the request that its receiver knows.
+fn some_packet(random: &mut Random, palette: &Palette, network: &Network) -> Packet {
+    let n = network.stations();
+    let receiver = random.below(n);
+    let sender = (receiver + random.between(1, n - 1)) % n;
+    let ends = Packet { sender: sender as u8, receiver: receiver as u8, ..NO_PACKET };
+    let kind = random.of(&[REQUEST, REPLY, REPLY, ERROR]);
+    if kind == ERROR {
+        return Packet { kind, mask: (random.number() % (1 << n)) as u16, ..ends };
+    }
+    let source = random.below(n);
+    let known = if source == receiver {
+        (network.numbers[receiver], network.sought[receiver])
+    } else {
+        (network.records[receiver][source].number, network.records[receiver][source].destination)
+    };
+    let (number, destination) = if kind == REPLY && random.percent(80) { known } else { (some_number(random), random.below(n) as u8) };
+    Packet {
+        kind,
+        source: source as u8,
+        number: number.max(1),
+        destination,
+        label: palette.label(random),
+        reset: u8::from(kind == REQUEST && random.percent(40)),
+        ..ends
+    }
+}
+
+/// A random network in range. Where nothing of it stands, its bytes are what they are, or any.
+pub fn some_network(random: &mut Random) -> Box<Network> {
+    let n = random.between(2, MAX_STATIONS);
+    let palette = Palette::new(random);
+    let mut network = Network::fresh(n, 1);
+    if random.percent(50) {
+        let mut bytes = vec![0; LENGTH];
+        random.fill(&mut bytes);
+        *network = *Network::of(&bytes).unwrap();
+        network.n = n as u8;
+    }
+    let density = random.of(&[0, 20, 50, 90, 100]);
+    let rows = random.of(&[30, 70, 100]);
+    for i in 0..n {
+        network.numbers[i] = some_number(random);
+        network.sought[i] = random.below(n) as u8;
+        network.active[i] = u8::from(random.percent(40));
+        for t in 0..n {
+            if i < t {
+                network.links[i][t] = u8::from(random.percent(density));
+            }
+            if i == t {
+                network.labels[i][i] = palette.own_label(random);
+                network.rows[i][i].count = 0;
+                continue;
+            }
+            network.labels[i][t] = palette.label(random);
+            let mut row = if random.percent(rows) { some_row(random, &palette, n, i) } else { NO_ROW };
+            // What stands past the count stays.
+            row.entries[usize::from(row.count)..].copy_from_slice(&network.rows[i][t].entries[usize::from(row.count)..]);
+            network.rows[i][t] = row;
+            network.records[i][t] = Record {
+                number: some_number(random),
+                destination: random.below(n) as u8,
+                cached: palette.label(random),
+                last_hop: random.below(n) as u8,
+                passed: u8::from(random.percent(30)),
+            };
+        }
+    }
+    network.in_air = match random.below(3) {
+        0 => random.below(10),
+        1 => random.below(MAX_PACKETS + 1),
+        _ => random.between(MAX_PACKETS - 3, MAX_PACKETS),
+    } as u8;
+    for k in 0..usize::from(network.in_air) {
+        network.packets[k] = some_packet(random, &palette, &network);
+    }
+    network
+}
+
+/// A station that there mostly is, or a number that is none.
+fn some_station(random: &mut Random, n: usize) -> usize {
+    match random.below(20) {
+        0 => random.of(&[n, n + 1, 255, 256, 1 << 32, usize::MAX]),
+        1 => 256 + random.below(n),
+        _ => random.below(n),
+    }
+}
+
+fn some_place(random: &mut Random, in_air: usize) -> usize {
+    match random.below(20) {
+        0 => random.of(&[in_air, 127, 128, 255, 256, 1 << 32, usize::MAX]),
+        _ => random.below(in_air.max(1)),
+    }
+}
+
+/// A call that mostly names stations and packets that there are.
+fn some_call(random: &mut Random, n: usize, in_air: usize) -> Call {
+    const WEIGHTS: [usize; 18] = [1, 6, 8, 10, 4, 3, 60, 3, 8, 10, 1, 1, 2, 2, 2, 2, 2, 2];
+    let (a, b) = (some_station(random, n), some_station(random, n));
+    let k = some_place(random, in_air);
+    match random.weighted(&WEIGHTS) {
+        0 => Call::Open(random.of(&[0, 1, 2, 9, 16, 17, 18, 258, usize::MAX]), random.of(&[0, 1, 7, u64::MAX])),
+        1 => Call::Up(a, b),
+        2 => Call::Down(a, b),
+        3 => Call::Solicit(a, b),
+        4 => Call::GiveUp(a),
+        5 => Call::Expire(a, b),
+        6 => Call::Deliver(k),
+        7 => Call::Lose(k),
+        8 => Call::Duplicate(k),
+        9 => Call::Trace(a, b),
+        10 => Call::Size,
+        11 => Call::Air,
+        12 => Call::Link(a, b),
+        13 => Call::Label(a, b),
+        14 => Call::Row(a, b),
+        15 => Call::Record(a, b),
+        16 => Call::Station(a),
+        _ => Call::Packet(k),
+    }
+}
+
+fn some_out_length(random: &mut Random) -> usize {
+    random.of(&[0, 5, 6, 15, 16, 22, 23, 27, 28, 68, 69, OUT])
+}
+
+/// Calls one after the other on a random network.
+pub fn check_network(case: usize) -> Result<Tally, String> {
+    let mut random = Random::new(case as u64);
+    let mut tally = Tally::default();
+    let mut bytes = some_network(&mut random).bytes().to_vec();
+    bytes.extend([0xc3; 5]);
+    if !Network::of(&bytes).unwrap().in_range() {
+        return Err("the Rust build takes this network for one out of range".into());
+    }
+    let mut desk = Desk::new(&bytes);
+    for step in 0..40 {
+        let call = some_call(&mut random, desk.network().stations(), usize::from(desk.network().in_air));
+        let result = desk.call(call, some_out_length(&mut random)).map_err(|what| format!("call {step}: {what}"))?;
+        if answer_of(result) == 1 && !matches!(call, Call::Open(..)) {
+            return Err(format!("call {step}: {call:?}: a network in range is taken for one out of range"));
+        }
+        tally.count(answer_of(result));
+    }
+    Ok(tally)
+}
+
+/// A byte of the layout, mostly one that tells something of a network of n stations with packets in the air.
+fn some_byte(random: &mut Random, network: &Network) -> usize {
+    let n = network.stations();
+    let (i, t) = (random.below(n), random.below(n));
+    let pair = MAX_STATIONS * i + t;
+    match random.below(10) {
+        0 => offset_of!(Network, sought) + i,
+        1 => offset_of!(Network, active) + i,
+        2 => offset_of!(Network, links) + pair,
+        3 => offset_of!(Network, labels) + size_of::<Label>() * pair + random.below(size_of::<Label>()),
+        4 => offset_of!(Network, rows) + size_of::<Row>() * pair,
+        5 => offset_of!(Network, rows) + size_of::<Row>() * pair + random.below(size_of::<Row>()),
+        6 => offset_of!(Network, records) + size_of::<Record>() * pair + random.below(size_of::<Record>()),
+        7 | 8 => {
+            let k = random.below(usize::from(network.in_air).max(1));
+            offset_of!(Network, packets) + size_of::<Packet>() * k + random.below(size_of::<Packet>())
+        }
+        _ => match random.below(3) {
+            0 => offset_of!(Network, n),
+            1 => offset_of!(Network, in_air),
+            _ => random.below(LENGTH),
+        },
+    }
+}
+
+/// The network after a script, or a random one.
+fn whole_network(random: &mut Random, case: usize, examples: &[Script]) -> Box<Network> {
+    if random.percent(50) {
+        return some_network(random);
+    }
+    let script = script_of(case, examples);
+    let mut network = Network::fresh(script.n, script.start);
+    for (_, kind, a, b) in script.events() {
+        let _ = network.event(kind, a, b);
+    }
+    network
+}
+
+/// Calls on a network of which a few bytes were changed.
+pub fn check_damaged(case: usize, examples: &[Script]) -> Result<Tally, String> {
+    let mut random = Random::new(case as u64);
+    let mut tally = Tally::default();
+    let network = whole_network(&mut random, case, examples);
+    for trial in 0..30 {
+        let mut bytes = network.bytes().to_vec();
+        let mut changes = vec![];
+        for _ in 0..random.between(1, 3) {
+            let at = some_byte(&mut random, &network);
+            bytes[at] = match random.below(4) {
+                0 => bytes[at] ^ 1 << random.below(8),
+                1 => random.of(&[0, 1, 2, 3, 4, 5, 16, 17, 128, 129, 255]),
+                2 => (network.stations() + random.below(2)) as u8,
+                _ => random.byte(),
+            };
+            changes.push(format!("{} is {}", crate::calls::place(at), bytes[at]));
+        }
+        let mut desk = Desk::new(&bytes);
+        for _ in 0..2 {
+            let call = some_call(&mut random, network.stations(), usize::from(network.in_air));
+            let result = desk.call(call, OUT).map_err(|what| format!("trial {trial}, where {}: {what}", changes.join(", ")))?;
+            tally.count(answer_of(result));
+        }
+    }
+    Ok(tally)
+}
+
+/// Calls on slices of other lengths: shorter ones are turned down with 1, and what stands past the layout is kept.
+pub fn check_lengths(case: usize) -> Result<Tally, String> {
+    let mut random = Random::new(case as u64);
+    let mut tally = Tally::default();
+    let network = some_network(&mut random);
+    for length in [0, 1, random.below(LENGTH), LENGTH - 1, LENGTH, LENGTH + 1, LENGTH + 1000] {
+        let mut bytes = vec![0; length];
+        random.fill(&mut bytes);
+        let whole = length.min(LENGTH);
+        bytes[..whole].copy_from_slice(&network.bytes()[..whole]);
+        let mut desk = Desk::new(&bytes);
+        for call in std::iter::repeat_with(|| some_call(&mut random, network.stations(), 1)).take(10).chain([Call::Open(9, 1), Call::Size])
+        {
+            let result = desk.call(call, OUT).map_err(|what| format!("a slice of {length} bytes: {what}"))?;
+            if length < LENGTH && answer_of(result) != 1 {
+                return Err(format!("{call:?} takes a slice of {length} bytes"));
+            }
+            tally.count(answer_of(result));
+        }
+        if desk.memory()[whole..] != bytes[whole..] {
+            return Err(format!("bytes past the layout changed, of a slice of {length}"));
+        }
+    }
+    Ok(tally)
+}

@@ -1,0 +1,289 @@
+//! Scripts: how they are made, and the test of one.
+
+use crate::calls::{answer_of, Call, Desk, OUT};
+use crate::program::rehearse;
+use crate::random::Random;
+use crate::tally::Tally;
+use reference::network::{Network, LENGTH, MAX_PACKETS, REQUEST};
+use reference::script::{self, DELIVER, DOWN, DUPLICATE, EXPIRE, GIVE_UP, LOSE, MAX_EVENTS, SOLICIT, TRACE, UP};
+
+/// A script before it is bytes.
+#[derive(Clone)]
+pub struct Script {
+    pub n: usize,
+    pub start: u64,
+    pub kinds: Vec<u8>,
+    pub operands: Vec<u8>,
+}
+
+impl Script {
+    pub fn of(bytes: &[u8]) -> Result<Script, u32> {
+        let (sizes, kinds, operands) = script::parse(bytes)?;
+        Ok(Script { n: usize::from(sizes.n), start: sizes.start, kinds: kinds.to_vec(), operands: operands.to_vec() })
+    }
+
+    pub fn bytes(&self) -> Vec<u8> {
+        let mut bytes = vec![self.n as u8];
+        bytes.extend((self.kinds.len() as u16).to_le_bytes());
+        bytes.extend(self.start.to_le_bytes());
+        bytes.extend(&self.kinds);
+        bytes.extend(&self.operands);
+        bytes
+    }
+
+    pub fn events(&self) -> impl Iterator<Item = (usize, u8, u8, u8)> + '_ {
+        self.kinds.iter().zip(self.operands.chunks_exact(2)).enumerate().map(|(index, (&kind, pair))| (index, kind, pair[0], pair[1]))
+    }
+
+    /// The first events alone.
+    fn cut(&self, events: usize) -> Script {
+        Script { kinds: self.kinds[..events].to_vec(), operands: self.operands[..2 * events].to_vec(), ..*self }
+    }
+}
+
+/// What a script is like.
+pub struct Style {
+    pub name: &'static str,
+    /// How often each kind of event comes, from Up to Trace.
+    weights: [usize; 9],
+    /// How many of a hundred events have operands of any value.
+    wild: usize,
+    /// How many of a hundred packets are taken from the front of the air.
+    front: usize,
+}
+
+pub const STYLES: [Style; 5] = [
+    Style { name: "packets in order", weights: [1, 1, 6, 2, 1, 60, 1, 1, 5], wild: 0, front: 95 },
+    Style { name: "packets late, twice or never", weights: [1, 1, 5, 3, 2, 35, 8, 12, 4], wild: 2, front: 30 },
+    Style { name: "links that come and go", weights: [9, 8, 6, 3, 3, 45, 2, 2, 5], wild: 2, front: 60 },
+    Style { name: "an air that is nearly full", weights: [2, 1, 14, 12, 2, 22, 1, 30, 2], wild: 1, front: 50 },
+    Style { name: "operands of any value", weights: [4, 2, 3, 2, 2, 8, 2, 2, 3], wild: 50, front: 50 },
+];
+
+/// Starts at the ends of 64 bits and between.
+fn some_start(random: &mut Random) -> u64 {
+    match random.below(6) {
+        0 | 1 => 1,
+        2 => u64::MAX,
+        3 => u64::MAX - 1,
+        4 => random.number() % 1000 + 1,
+        _ => random.number().max(1),
+    }
+}
+
+/// A script that grows together with the network that its events leave.
+struct Growing {
+    script: Script,
+    network: Box<Network>,
+}
+
+impl Growing {
+    fn new(n: usize, start: u64) -> Growing {
+        Growing { script: Script { n, start, kinds: vec![], operands: vec![] }, network: Network::fresh(n, start) }
+    }
+
+    fn push(&mut self, kind: u8, a: u8, b: u8) {
+        self.script.kinds.push(kind);
+        self.script.operands.extend([a, b]);
+        let _ = self.network.event(kind, a, b);
+    }
+
+    /// A tree over the stations, and some links more.
+    fn push_links(&mut self, random: &mut Random, room: usize) {
+        let n = self.script.n;
+        let density = random.of(&[0, 10, 30, 100]);
+        let tree = random.below(3);
+        for b in 1..n {
+            let parent = match tree {
+                0 => b - 1,
+                1 => 0,
+                _ => random.below(b),
+            };
+            for a in 0..b {
+                if (a == parent || random.percent(density)) && self.script.kinds.len() < room {
+                    self.push(UP, a as u8, b as u8);
+                }
+            }
+        }
+    }
+
+    /// An event that is likely to be accepted, where its kind can be.
+    fn push_fitting(&mut self, random: &mut Random, style: &Style) {
+        let kind = UP + random.weighted(&style.weights) as u8;
+        let n = self.script.n;
+        let network = &self.network;
+        let pairs = || (0..n * n).map(|place| (place / n, place % n)).filter(|(a, b)| a != b);
+        let chosen = match kind {
+            UP => random.among(pairs().filter(|&(a, b)| !network.link(a, b))),
+            DOWN => random.among(pairs().filter(|&(a, b)| network.link(a, b))),
+            SOLICIT => random.among(pairs().filter(|&(a, _)| network.active[a] == 0)),
+            GIVE_UP => random.among((0..n).filter(|&a| network.active[a] == 1).map(|a| (a, 0))),
+            EXPIRE => random.among(pairs().filter(|&(a, t)| !network.rows[a][t].is_empty())),
+            DELIVER | LOSE | DUPLICATE => self.some_packet(random, style).map(|k| (k, 0)),
+            _ if random.percent(30) => random.among(pairs()),
+            _ => random.among(pairs().filter(|&(a, t)| !network.rows[a][t].is_empty())),
+        };
+        // Where no event of the kind can be accepted it is mostly left out.
+        if let Some((a, b)) = chosen {
+            self.push(kind, a as u8, b as u8);
+        } else if random.percent(5) {
+            self.push(kind, random.below(n) as u8, if script::uses_b(kind) { random.below(n) as u8 } else { 0 });
+        }
+    }
+
+    /// A packet in the air: the first, or any, or any that is no request, since these are few.
+    fn some_packet(&self, random: &mut Random, style: &Style) -> Option<usize> {
+        let air = self.network.air();
+        if random.percent(style.front) {
+            return (!air.is_empty()).then_some(0);
+        }
+        let any = random.percent(60) || air.iter().all(|packet| packet.kind == REQUEST);
+        random.among((0..air.len()).filter(|&k| any || air[k].kind != REQUEST))
+    }
+
+    /// Any kind with any operands, most of them near the numbers of stations and packets.
+    fn push_wild(&mut self, random: &mut Random) {
+        let kind = random.between(usize::from(UP), usize::from(TRACE)) as u8;
+        let mut operand = || match random.below(4) {
+            0 => random.byte(),
+            1 => random.between(MAX_PACKETS - 2, MAX_PACKETS + 2) as u8,
+            _ => random.below(self.script.n + 2) as u8,
+        };
+        let (a, b) = (operand(), operand());
+        self.push(kind, a, if script::uses_b(kind) { b } else { 0 });
+    }
+
+    fn grow(&mut self, random: &mut Random, style: &Style, events: usize) {
+        while self.script.kinds.len() < events {
+            if random.percent(style.wild) {
+                self.push_wild(random);
+            } else {
+                self.push_fitting(random, style);
+            }
+        }
+    }
+}
+
+/// A script of a style, of a network of n stations.
+pub fn styled(random: &mut Random, style: &Style, n: usize, start: u64, events: usize) -> Script {
+    let mut growing = Growing::new(n, start);
+    if !random.percent(10) {
+        growing.push_links(random, events);
+    }
+    growing.grow(random, style, events);
+    growing.script
+}
+
+/// A script that begins with the events of another, all or some of them, and goes on in a style.
+fn continued(random: &mut Random, style: &Style, first: &Script, start: u64, events: usize) -> Script {
+    let mut growing = Growing::new(first.n, start);
+    let taken = if random.percent(50) { first.kinds.len() } else { random.below(first.kinds.len() + 1) };
+    for (_, kind, a, b) in first.events().take(taken) {
+        growing.push(kind, a, b);
+    }
+    growing.grow(random, style, events);
+    growing.script
+}
+
+/// The script of a case. Every n is met with every style, and one of six has the most events that there can be. One round of seven goes
+/// on from the examples, since these lead to where no chance does.
+pub fn script_of(case: usize, examples: &[Script]) -> Script {
+    let mut random = Random::new(case as u64);
+    let (n, round) = (2 + case % 15, case / 15);
+    let style = &STYLES[round % STYLES.len()];
+    let events = match (n + round) % 6 {
+        0 => MAX_EVENTS,
+        1 => random.below(12),
+        _ => random.between(12, 500),
+    };
+    let start = some_start(&mut random);
+    if round % 7 == 6 {
+        continued(&mut random, style, &examples[case % examples.len()], start, events)
+    } else {
+        styled(&mut random, style, n, start, events)
+    }
+}
+
+/// Hexadecimal, grouped as 01 writes its example.
+pub fn hex(script: &Script) -> String {
+    let digits = |bytes: &[u8]| bytes.iter().map(|byte| format!("{byte:02x}")).collect::<String>();
+    let bytes = script.bytes();
+    let groups = [&bytes[..1], &bytes[1..3], &bytes[3..script::HEAD], &script.kinds].into_iter().chain(script.operands.chunks(2));
+    groups.map(digits).collect::<Vec<_>>().join(" ")
+}
+
+/// What failed, with the script up to there.
+fn failure(script: &Script, events: usize, what: String) -> String {
+    format!("{what}\nscript:\n{}", hex(&script.cut(events)))
+}
+
+/// Each route goes strictly lower: what demand 3 rests on, asked of the memory itself.
+fn check_routes(network: &Network) -> Result<(), String> {
+    for i in 0..network.stations() {
+        for t in 0..network.stations() {
+            for entry in network.rows[i][t].successors() {
+                if !network.labels[i][t].above(network.labels[usize::from(entry.station)][t]) {
+                    return Err(format!("the route of {i} for {t} over {} does not go lower", { entry.station }));
+                }
+            }
+        }
+    }
+    Ok(())
+}
+
+/// Any question about the network.
+fn question(random: &mut Random) -> Call {
+    let (a, b) = (random.below(18), random.below(18));
+    match random.below(8) {
+        0 => Call::Size,
+        1 => Call::Air,
+        2 => Call::Link(a, b),
+        3 => Call::Label(a, b),
+        4 => Call::Row(a, b),
+        5 => Call::Record(a, b),
+        6 => Call::Station(a),
+        _ => Call::Packet(random.below(MAX_PACKETS + 2)),
+    }
+}
+
+/// A script on both builds, event by event and as a whole by the rehearsal programs.
+pub fn check(script: &Script, random: &mut Random) -> Result<Tally, String> {
+    let mut tally = Tally::default();
+    // Whatever stood in the memory before, and bytes past the layout.
+    let mut bytes = vec![0; LENGTH + random.below(3)];
+    random.fill(&mut bytes);
+    let mut desk = Desk::new(&bytes);
+    desk.call(Call::Open(script.n, script.start), 0).map_err(|what| failure(script, 0, what))?;
+    for (index, kind, a, b) in script.events() {
+        let fails = |what| failure(script, index + 1, what);
+        let answer = answer_of(desk.event(index, kind, a, b).map_err(fails)?);
+        tally.count(answer);
+        if answer == 1 || answer == 133 {
+            return Err(fails(format!("event {index} of a script is answered {answer}")));
+        }
+        if random.percent(2) {
+            desk.call(question(random), random.below(OUT)).map_err(fails)?;
+            check_routes(desk.network()).map_err(fails)?;
+        }
+    }
+    check_routes(desk.network()).map_err(|what| failure(script, script.kinds.len(), what))?;
+    check_program(&script.bytes()).map_err(|what| failure(script, script.kinds.len(), what))?;
+    Ok(tally)
+}
+
+/// What the program prints of any bytes.
+pub fn check_program(bytes: &[u8]) -> Result<(), String> {
+    let printed = rehearse(bytes)?;
+    let wanted = reference::printout::rehearse(bytes);
+    if printed == wanted {
+        return Ok(());
+    }
+    let (printed, wanted) = (String::from_utf8_lossy(&printed), String::from_utf8_lossy(&wanted));
+    let at = printed
+        .lines()
+        .zip(wanted.lines())
+        .position(|(a, b)| a != b)
+        .unwrap_or_else(|| printed.lines().count().min(wanted.lines().count()));
+    let line = |text: &str| text.lines().nth(at).unwrap_or("(no line)").to_string();
+    Err(format!("line {} of the printouts, the program's and the Rust build's:\n{}\n{}", at + 1, line(&printed), line(&wanted)))
+}

@@ -1,0 +1,289 @@
+//! 01, "What each call does", on memory in range. A call that is turned down ends with the first number of 01's table that applies,
+//! before it writes anything; the tests come in 01's order: 2, 3 to 6, 8, 7.
+
+use crate::label::{new_label, UNASSIGNED};
+use crate::network::{Network, Packet, Record, Successor, ERROR, MAX_PACKETS, NO_PACKET, NO_ROW, REPLY, REQUEST};
+
+/// What an accepted call tells: its outcome number (0: none), the packets that it sent, and Trace's hops.
+#[derive(Clone, Copy, PartialEq, Eq, Debug)]
+pub struct Done {
+    pub outcome: u32,
+    pub sent: u32,
+    pub hops: u32,
+}
+
+/// An accepted call, or the number that turned it down.
+pub type Answer = Result<Done, u32>;
+
+fn done(outcome: u32, sent: usize) -> Answer {
+    Ok(Done { outcome, sent: sent as u32, hops: 0 })
+}
+
+fn refused_if(refused: bool, number: u32) -> Result<(), u32> {
+    if refused {
+        Err(number)
+    } else {
+        Ok(())
+    }
+}
+
+impl Network {
+    /// 2 where one is no station, or the two are equal.
+    pub fn test_pair(&self, a: usize, b: usize) -> Result<(), u32> {
+        refused_if(a >= self.stations() || b >= self.stations() || a == b, 2)
+    }
+
+    pub fn test_station(&self, a: usize) -> Result<(), u32> {
+        refused_if(a >= self.stations(), 2)
+    }
+
+    pub fn test_packet(&self, k: usize) -> Result<(), u32> {
+        refused_if(k >= usize::from(self.in_air), 6)
+    }
+
+    /// 7 where so many packets gone and so many sent make more than 128.
+    fn test_room(&self, gone: usize, sent: usize) -> Result<(), u32> {
+        refused_if(usize::from(self.in_air) - gone + sent > MAX_PACKETS, 7)
+    }
+
+    pub fn up(&mut self, a: usize, b: usize) -> Answer {
+        self.test_pair(a, b)?;
+        refused_if(self.link(a, b), 3)?;
+        self.set_link(a, b, true);
+        done(0, 0)
+    }
+
+    /// "Down first sets it down, drops packets between a and b, takes each out of the other's rows; then a, then b, broadcasts an
+    /// error with the mask of its rows emptied, if any."
+    pub fn down(&mut self, a: usize, b: usize) -> Answer {
+        self.test_pair(a, b)?;
+        refused_if(!self.link(a, b), 3)?;
+        let between = |packet: &Packet| {
+            let ends = (usize::from(packet.sender), usize::from(packet.receiver));
+            ends == (a, b) || ends == (b, a)
+        };
+        let gone = self.air().iter().filter(|packet| between(packet)).count();
+        let lost = [(a, self.emptied(a, b, u16::MAX)), (b, self.emptied(b, a, u16::MAX))];
+        let sent = lost.iter().filter(|(_, mask)| *mask != 0).map(|(i, _)| self.neighbours(*i).count() - 1).sum();
+        self.test_room(gone, sent)?;
+        self.set_link(a, b, false);
+        self.drop_packets(between);
+        self.take_out(a, b, u16::MAX);
+        self.take_out(b, a, u16::MAX);
+        for (i, mask) in lost {
+            if mask != 0 {
+                self.broadcast(i, error(mask));
+            }
+        }
+        done(0, sent)
+    }
+
+    /// "number + 1, t kept as last sought, a active, broadcasts a request with its label for t, reset bit 0".
+    pub fn solicit(&mut self, a: usize, t: usize) -> Answer {
+        self.test_pair(a, t)?;
+        refused_if(self.active[a] == 1, 4)?;
+        refused_if(self.numbers[a] == u32::MAX, 8)?;
+        let sent = self.neighbours(a).count();
+        self.test_room(0, sent)?;
+        self.numbers[a] += 1;
+        self.sought[a] = t as u8;
+        self.active[a] = 1;
+        let request =
+            Packet { kind: REQUEST, source: a as u8, number: self.numbers[a], destination: t as u8, label: self.labels[a][t], ..NO_PACKET };
+        self.broadcast(a, request);
+        done(0, sent)
+    }
+
+    pub fn give_up(&mut self, a: usize) -> Answer {
+        self.test_station(a)?;
+        refused_if(self.active[a] == 0, 5)?;
+        self.active[a] = 0;
+        done(0, 0)
+    }
+
+    pub fn expire(&mut self, a: usize, t: usize) -> Answer {
+        self.test_pair(a, t)?;
+        self.rows[a][t] = NO_ROW;
+        done(0, 0)
+    }
+
+    pub fn lose(&mut self, k: usize) -> Answer {
+        self.test_packet(k)?;
+        self.remove_packet(k);
+        done(0, 0)
+    }
+
+    pub fn duplicate(&mut self, k: usize) -> Answer {
+        self.test_packet(k)?;
+        self.test_room(0, 1)?;
+        self.append(self.packets[k]);
+        done(0, 0)
+    }
+
+    /// "Deliver(k): removes packet k, later ones move up, then the receiver i acts."
+    pub fn deliver(&mut self, k: usize) -> Answer {
+        self.test_packet(k)?;
+        match self.packets[k].kind {
+            REQUEST => self.deliver_request(k),
+            REPLY => self.deliver_reply(k),
+            _ => self.deliver_error(k),
+        }
+    }
+
+    /// "Request R from j: .."
+    fn deliver_request(&mut self, k: usize) -> Answer {
+        let r = self.packets[k];
+        let (i, source, t) = (usize::from(r.receiver), usize::from(r.source), usize::from(r.destination));
+        if i == source || self.records[i][source].number >= r.number {
+            self.remove_packet(k);
+            return done(101, 0);
+        }
+        let own = self.labels[i][t];
+        let replies = i == t || !self.rows[i][t].is_empty() && (own.s > r.label.s || r.label.above(own) && r.reset == 0);
+        let copies = if replies { 1 } else { self.neighbours(i).count() };
+        self.test_room(1, copies)?;
+
+        self.remove_packet(k);
+        self.records[i][source] = Record { number: r.number, destination: r.destination, cached: r.label, last_hop: r.sender, passed: 0 };
+        if !replies {
+            let label = if r.label.above(own) { own } else { r.label };
+            let reset = if own == UNASSIGNED && r.label == UNASSIGNED || own.s > r.label.s {
+                0
+            } else if !r.label.above(own) && u64::from(own.d) + u64::from(r.label.d) > u64::from(u32::MAX) {
+                1
+            } else {
+                r.reset
+            };
+            self.broadcast(i, Packet { label, reset, ..r });
+            return done(103, copies);
+        }
+        if i == t && r.reset == 1 && own.s <= r.label.s {
+            match r.label.s.checked_add(1) {
+                Some(s) => self.labels[i][i].s = s,
+                None => return done(104, 0),
+            }
+        }
+        self.reply(&r, i, r.sender);
+        done(102, 1)
+    }
+
+    /// "Reply V from j: .." It sends one packet at most, in the place of the one that is gone, so it is never turned down with 7.
+    fn deliver_reply(&mut self, k: usize) -> Answer {
+        let v = self.packets[k];
+        let (i, source, t) = (usize::from(v.receiver), usize::from(v.source), usize::from(v.destination));
+        self.remove_packet(k);
+        let record = self.records[i][source];
+        let (number, destination, cached) =
+            if i == source { (self.numbers[i], self.sought[i], UNASSIGNED) } else { (record.number, record.destination, record.cached) };
+        if i == t || v.number != number || v.destination != destination {
+            return done(111, 0);
+        }
+        let outcome = match new_label(self.labels[i][t], cached, v.label) {
+            Err(number) => number,
+            Ok(label) => {
+                self.labels[i][t] = label;
+                let row = &mut self.rows[i][t];
+                row.keep_below(label);
+                row.put(Successor { station: v.sender, label: v.label });
+                if i == source {
+                    self.active[i] = 0;
+                }
+                115
+            }
+        };
+        let passes_on = i != source
+            && record.passed == 0
+            && !self.rows[i][t].is_empty()
+            && cached.above(self.labels[i][t])
+            && self.link(i, usize::from(record.last_hop));
+        if passes_on {
+            self.reply(&v, i, record.last_hop);
+        }
+        done(outcome, usize::from(passes_on))
+    }
+
+    /// Station i replies with its label to the request that a packet tells of, and marks its record.
+    fn reply(&mut self, about: &Packet, i: usize, to: u8) {
+        self.append(Packet {
+            sender: i as u8,
+            receiver: to,
+            kind: REPLY,
+            label: self.labels[i][usize::from(about.destination)],
+            reset: 0,
+            ..*about
+        });
+        self.records[i][usize::from(about.source)].passed = 1;
+    }
+
+    /// "Error from j: j leaves each row i holds for a masked destination. 121 nothing removed; 122 none emptied; 123 some emptied, and
+    /// i broadcasts an error masking those."
+    fn deliver_error(&mut self, k: usize) -> Answer {
+        let e = self.packets[k];
+        let (i, j) = (usize::from(e.receiver), usize::from(e.sender));
+        let emptied = self.emptied(i, j, e.mask);
+        let sent = if emptied == 0 { 0 } else { self.neighbours(i).count() };
+        self.test_room(1, sent)?;
+        self.remove_packet(k);
+        let removed = self.take_out(i, j, e.mask);
+        if emptied != 0 {
+            self.broadcast(i, error(emptied));
+        }
+        done(
+            if !removed {
+                121
+            } else if emptied == 0 {
+                122
+            } else {
+                123
+            },
+            sent,
+        )
+    }
+
+    /// The mask of i's rows, for destinations of a mask, that j alone stands in.
+    fn emptied(&self, i: usize, j: usize, mask: u16) -> u16 {
+        let alone = |t: &usize| {
+            let row = &self.rows[i][*t];
+            mask >> t & 1 == 1 && row.count == 1 && usize::from(row.entries[0].station) == j
+        };
+        (0..self.stations()).filter(alone).fold(0, |emptied, t| emptied | 1 << t)
+    }
+
+    /// Takes j out of i's rows for destinations of a mask; whether it stood in one.
+    fn take_out(&mut self, i: usize, j: usize, mask: u16) -> bool {
+        let mut removed = false;
+        for t in 0..self.stations() {
+            if mask >> t & 1 == 1 {
+                if let Some(at) = self.rows[i][t].position(j) {
+                    self.rows[i][t].remove(at);
+                    removed = true;
+                }
+            }
+        }
+        removed
+    }
+
+    /// "repeatedly to the row's first entry. 131 at t, 132 at an empty row, 133 after n−1 hops with neither, plus the hops".
+    pub fn trace(&self, a: usize, t: usize) -> Answer {
+        self.test_pair(a, t)?;
+        let (mut at, mut hops) = (a, 0);
+        let outcome = loop {
+            if at == t {
+                break 131;
+            }
+            if self.rows[at][t].is_empty() {
+                break 132;
+            }
+            if hops == self.stations() - 1 {
+                break 133;
+            }
+            at = usize::from(self.rows[at][t].entries[0].station);
+            hops += 1;
+        };
+        Ok(Done { outcome, sent: 0, hops: hops as u32 })
+    }
+}
+
+fn error(mask: u16) -> Packet {
+    Packet { kind: ERROR, mask, ..NO_PACKET }
+}

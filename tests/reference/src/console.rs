@@ -1,0 +1,175 @@
+//! The functions of include/srp.h on byte slices, in place. A result has the answer in its low half and a count in its high half.
+
+use crate::calls::Answer;
+use crate::label::{new_label as new_label_in_range, Label};
+use crate::network::{Bytes, Network};
+use crate::script;
+
+fn result(answer: u32, count: u32) -> u64 {
+    u64::from(answer) | u64::from(count) << 32
+}
+
+/// What a call tells: packets sent, or a trace's hops.
+fn told(answer: Answer) -> u64 {
+    match answer {
+        Ok(done) => result(done.outcome, done.sent + done.hops),
+        Err(number) => result(number, 0),
+    }
+}
+
+/// "A console slice shorter than the layout (for Open too) .. counts as memory out of range; Open tests the length only."
+pub fn open(memory: &mut [u8], n: usize, start: u64) -> u64 {
+    match Network::of_mut(memory) {
+        Some(network) if script::test_opening(n, start).is_ok() => {
+            network.open(n, start);
+            result(0, 0)
+        }
+        _ => result(1, 0),
+    }
+}
+
+/// The network in a slice, where it is in range.
+fn ranged(memory: &[u8]) -> Result<&Network, u32> {
+    Network::of(memory).filter(|network| network.in_range()).ok_or(1)
+}
+
+/// A call on memory that is in range, else 1.
+fn call(memory: &mut [u8], step: impl FnOnce(&mut Network) -> Answer) -> u64 {
+    let answer = match Network::of_mut(memory) {
+        Some(network) if network.in_range() => {
+            let answer = step(network);
+            if answer.is_ok() {
+                network.settle();
+            }
+            answer
+        }
+        _ => Err(1),
+    };
+    told(answer)
+}
+
+pub fn up(memory: &mut [u8], a: usize, b: usize) -> u64 {
+    call(memory, |network| network.up(a, b))
+}
+
+pub fn down(memory: &mut [u8], a: usize, b: usize) -> u64 {
+    call(memory, |network| network.down(a, b))
+}
+
+pub fn solicit(memory: &mut [u8], a: usize, t: usize) -> u64 {
+    call(memory, |network| network.solicit(a, t))
+}
+
+pub fn give_up(memory: &mut [u8], a: usize) -> u64 {
+    call(memory, |network| network.give_up(a))
+}
+
+pub fn expire(memory: &mut [u8], a: usize, t: usize) -> u64 {
+    call(memory, |network| network.expire(a, t))
+}
+
+pub fn deliver(memory: &mut [u8], k: usize) -> u64 {
+    call(memory, |network| network.deliver(k))
+}
+
+pub fn lose(memory: &mut [u8], k: usize) -> u64 {
+    call(memory, |network| network.lose(k))
+}
+
+pub fn duplicate(memory: &mut [u8], k: usize) -> u64 {
+    call(memory, |network| network.duplicate(k))
+}
+
+pub fn trace(memory: &[u8], a: usize, t: usize) -> u64 {
+    told(ranged(memory).and_then(|network| network.trace(a, t)))
+}
+
+/// A number to show, or the number that turned the call down.
+fn shown(count: Result<u32, u32>) -> u64 {
+    match count {
+        Ok(count) => result(0, count),
+        Err(number) => result(number, 0),
+    }
+}
+
+/// Writes bytes to show, 12 where there is no room; how many.
+fn put(bytes: &[u8], out: &mut [u8]) -> Result<u32, u32> {
+    out.get_mut(..bytes.len()).ok_or(12u32)?.copy_from_slice(bytes);
+    Ok(bytes.len() as u32)
+}
+
+pub fn size(memory: &[u8]) -> u64 {
+    shown(ranged(memory).map(|network| u32::from(network.n)))
+}
+
+pub fn air(memory: &[u8]) -> u64 {
+    shown(ranged(memory).map(|network| u32::from(network.in_air)))
+}
+
+pub fn link(memory: &[u8], a: usize, b: usize) -> u64 {
+    shown(ranged(memory).and_then(|network| {
+        network.test_pair(a, b)?;
+        Ok(u32::from(network.link(a, b)))
+    }))
+}
+
+pub fn label(memory: &[u8], i: usize, t: usize, out: &mut [u8]) -> u64 {
+    shown(ranged(memory).and_then(|network| {
+        network.test_station(i.max(t))?;
+        put(network.labels[i][t].bytes(), out)
+    }))
+}
+
+pub fn row(memory: &[u8], i: usize, t: usize, out: &mut [u8]) -> u64 {
+    shown(ranged(memory).and_then(|network| {
+        network.test_station(i.max(t))?;
+        let mut row = network.rows[i][t];
+        row.settle();
+        put(row.bytes(), out)
+    }))
+}
+
+pub fn record(memory: &[u8], i: usize, source: usize, out: &mut [u8]) -> u64 {
+    shown(ranged(memory).and_then(|network| {
+        network.test_pair(i, source)?;
+        put(network.records[i][source].bytes(), out)
+    }))
+}
+
+pub fn station(memory: &[u8], i: usize, out: &mut [u8]) -> u64 {
+    shown(ranged(memory).and_then(|network| {
+        network.test_station(i)?;
+        let [b0, b1, b2, b3] = network.numbers[i].to_le_bytes();
+        put(&[b0, b1, b2, b3, network.sought[i], network.active[i]], out)
+    }))
+}
+
+pub fn packet(memory: &[u8], k: usize, out: &mut [u8]) -> u64 {
+    shown(ranged(memory).and_then(|network| {
+        network.test_packet(k)?;
+        put(network.packets[k].bytes(), out)
+    }))
+}
+
+pub fn read_script(script: &[u8], kinds: &mut [u8], operands: &mut [u8]) -> u64 {
+    shown(script::read(script, kinds, operands).map(|sizes| sizes.events as u32 + 65_536 * u32::from(sizes.n)))
+}
+
+pub fn script_start(script: &[u8]) -> u64 {
+    script::start_of(script)
+}
+
+pub fn write_script(n: usize, start: u64, kinds: &[u8], operands: &[u8], out: &mut [u8]) -> u64 {
+    shown(script::write(n, start, kinds, operands, out).map(|length| length as u32))
+}
+
+/// The new label's d and m, or 0 and a number; "a label out of range" is 1.
+pub fn new_label(own: Label, cached: Label, advertised: Label) -> u64 {
+    if !(own.in_range() && cached.in_range() && advertised.in_range()) {
+        return result(1, 0);
+    }
+    match new_label_in_range(own, cached, advertised) {
+        Ok(label) => result(label.m, label.d),
+        Err(number) => result(number, 0),
+    }
+}
