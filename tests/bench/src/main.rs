@@ -9,7 +9,7 @@ use differential::program::root;
 use differential::random::Random;
 use differential::scripts::{styled, Script, STYLES};
 use reference::label::{Label, UNASSIGNED};
-use reference::network::{Bytes, Network, LENGTH};
+use reference::network::{Bytes, Network, LENGTH, MAX_STATIONS};
 use reference::script::MAX_EVENTS;
 use std::hint::black_box;
 use std::io::Write;
@@ -32,6 +32,16 @@ fn sorted(values: impl Iterator<Item = f64>) -> Vec<f64> {
     values
 }
 
+fn median(values: impl Iterator<Item = f64>) -> f64 {
+    let values = sorted(values);
+    values[values.len() / 2]
+}
+
+/// Nanoseconds with three digits or more.
+fn rounded(time: f64) -> String {
+    format!("{time:.*}", if time < 10.0 { 2 } else { usize::from(time < 100.0) })
+}
+
 impl Times {
     /// Rounds of both, one after the other; the first is left out.
     fn of(mut round: impl FnMut() -> (f64, f64)) -> Times {
@@ -46,16 +56,10 @@ impl Times {
     }
 
     fn print(&self, what: &str) {
-        let median = |values: &[f64]| sorted(values.iter().copied())[ROUNDS / 2];
         let ratios = sorted(self.library.iter().zip(&self.reference).map(|(a, b)| a / b));
-        println!(
-            "| {what} | {:.0} | {:.1} | {:.1} | {:.1} to {:.1} |",
-            median(&self.library),
-            median(&self.reference),
-            ratios[ROUNDS / 2],
-            ratios[0],
-            ratios[ROUNDS - 1]
-        );
+        let (library, reference) = (median(self.library.iter().copied()), median(self.reference.iter().copied()));
+        let (lowest, middle, highest) = (ratios[0], ratios[ROUNDS / 2], ratios[ROUNDS - 1]);
+        println!("| {what} | {} | {} | {middle:.1} | {lowest:.1} to {highest:.1} |", rounded(library), rounded(reference));
         eprintln!("bench: {what}");
     }
 }
@@ -80,13 +84,13 @@ fn run_program(program: &Path, script: &[u8]) {
     assert!(child.wait().unwrap().success());
 }
 
-/// Nanoseconds for each event: a run of the script, less a run of a script of no event.
+/// Nanoseconds for each event: a run of the script, less a run of a script of no event. Of each the shortest of some runs is taken.
 fn per_event(program: &Path, script: &Script) -> f64 {
-    const RUNS: usize = 8;
+    const RUNS: usize = 10;
     let none = Script { kinds: vec![], operands: vec![], ..script.clone() };
     let [all, none] = [script, &none].map(|script| {
         let bytes = script.bytes();
-        timed(RUNS, || (0..RUNS).for_each(|_| run_program(program, &bytes)))
+        sorted((0..RUNS).map(|_| timed(1, || run_program(program, &bytes))))[0]
     });
     (all - none) / script.kinds.len() as f64
 }
@@ -122,6 +126,32 @@ fn bench_scripts_by_calls(scripts: &[(String, Script)]) {
     }
 }
 
+/// The events of a script in place by the Rust build, with what a console call adds to them.
+fn events_of(script: &Script, ranged: bool, settled: bool) -> f64 {
+    let mut network = Network::fresh(script.n, script.start);
+    timed(script.kinds.len(), || {
+        for (_, kind, a, b) in script.events() {
+            if ranged {
+                assert!(black_box(&network).in_range());
+            }
+            let _ = black_box(network.event(kind, a, b));
+            if settled {
+                black_box(&mut network).settle();
+            }
+        }
+    })
+}
+
+fn bench_parts(scripts: &[(String, Script)]) {
+    println!("\nNanoseconds for each event in the Rust build alone.\n");
+    println!("| | In place | with the range test | and with the free places put as the layout says |\n|---|---|---|---|");
+    for (what, script) in scripts {
+        let time = |ranged, settled| median((0..ROUNDS).map(|_| events_of(script, ranged, settled)));
+        println!("| {what} | {:.0} | {:.0} | {:.0} |", time(false, false), time(true, false), time(true, true));
+        eprintln!("bench: {what}");
+    }
+}
+
 /// One call, each time on the same bytes: they are copied before the call, and the copy's time is taken off.
 fn calls_on(make: Make, network: &[u8], call: Call) -> f64 {
     const CALLS: usize = 2_000;
@@ -137,22 +167,27 @@ fn calls_on(make: Make, network: &[u8], call: Call) -> f64 {
     all - copied
 }
 
-/// The network after events of a script, before the first that is answered so.
-fn before_answer(script: &Script, kind: u8, answer: u32) -> (Vec<u8>, Call) {
-    let mut network = Network::fresh(script.n, script.start);
-    for (_, its_kind, a, b) in script.events() {
-        let before = *network;
-        let its_answer = network.event(its_kind, a, b);
-        if its_kind == kind && its_answer.map_or_else(|number| number, |done| done.outcome) == answer && before.in_air > 30 {
-            return (before.bytes().to_vec(), call_of(kind, a, b));
+/// A network that a script leads to, with packets in the air, and a call on it that is answered so.
+fn before_answer(scripts: &[(String, Script)], kind: u8, answer: u32) -> (Vec<u8>, Call) {
+    for (_, script) in scripts.iter().filter(|(_, script)| script.n == MAX_STATIONS) {
+        let mut network = Network::fresh(script.n, script.start);
+        for (_, its_kind, a, b) in script.events() {
+            let before = *network;
+            let its_answer = network.event(its_kind, a, b).map_or_else(|number| number, |done| done.outcome);
+            if (its_kind, its_answer) == (kind, answer) && before.in_air >= SOME_PACKETS {
+                return (before.bytes().to_vec(), call_of(kind, a, b));
+            }
         }
     }
     panic!("no event of kind {kind} is answered {answer}")
 }
 
-fn bench_calls(busy: &Script) {
+/// So many packets at least are in the air where a call is timed by its answer.
+const SOME_PACKETS: u8 = 30;
+
+fn bench_calls(scripts: &[(String, Script)]) {
     use reference::script::{DELIVER, DOWN, DUPLICATE, EXPIRE, GIVE_UP, LOSE, SOLICIT, TRACE, UP};
-    heading("Nanoseconds for each console call, by its answer, in networks of 16 stations with over 30 packets in the air.");
+    heading("Nanoseconds for each console call, by its answer, in networks of 16 stations with 30 packets or more in the air.");
     let calls = [
         ("Deliver, a request that is known (101)", DELIVER, 101),
         ("Deliver, a request that is answered (102)", DELIVER, 102),
@@ -172,11 +207,11 @@ fn bench_calls(busy: &Script) {
         ("Up, turned down (3)", UP, 3),
     ];
     for (what, kind, answer) in calls {
-        let (network, call) = before_answer(busy, kind, answer);
+        let (network, call) = before_answer(scripts, kind, answer);
         assert_eq!(answer_of(by_library(call, &mut network.clone(), &mut [])), answer);
         Times::of(|| (calls_on(by_library, &network, call), calls_on(by_reference, &network, call))).print(what);
     }
-    let (network, _) = before_answer(busy, DELIVER, 103);
+    let (network, _) = before_answer(scripts, DELIVER, 103);
     for (what, call) in [("Open", Call::Open(16, 1)), ("Size", Call::Size), ("Row", Call::Row(3, 0)), ("Packet", Call::Packet(7))] {
         Times::of(|| (calls_on(by_library, &network, call), calls_on(by_reference, &network, call))).print(what);
     }
@@ -224,7 +259,8 @@ fn bench_script_bytes(script: &Script) {
     };
     Times::of(|| (read(library::read_script), read(reference::console::read_script))).print("read");
     let mut out = vec![0; bytes.len()];
-    let mut write = |write: fn(usize, u64, &[u8], &[u8], &mut [u8]) -> u64| {
+    type Write = fn(usize, u64, &[u8], &[u8], &mut [u8]) -> u64;
+    let mut write = |write: Write| {
         timed(TURNS * script.kinds.len(), || {
             (0..TURNS)
                 .for_each(|_| assert_eq!(answer_of(write(script.n, script.start, black_box(&script.kinds), &script.operands, &mut out)), 0))
@@ -239,7 +275,8 @@ fn main() {
     scripts.push((format!("4 stations, {}", STYLES[0].name), of(0, 4)));
     bench_programs(&scripts);
     bench_scripts_by_calls(&scripts);
-    bench_calls(&scripts[2].1);
+    bench_parts(&scripts);
+    bench_calls(&scripts);
     bench_labels();
     bench_script_bytes(&scripts[0].1);
 }

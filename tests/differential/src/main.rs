@@ -10,7 +10,7 @@
 use differential::random::Random;
 use differential::scripts::{self, Script};
 use differential::tally::{Tally, ANSWERS};
-use differential::{labels, networks, program, script_bytes};
+use differential::{damage, labels, networks, program, script_bytes};
 use std::panic::{catch_unwind, AssertUnwindSafe};
 use std::process::ExitCode;
 use std::sync::atomic::{AtomicBool, AtomicU64, AtomicUsize, Ordering::Relaxed};
@@ -42,28 +42,23 @@ const TRIPLES: usize = 10_000;
 
 fn families() -> Vec<Family> {
     let scripts = examples();
-    let (for_damage, for_memory) = (scripts.clone(), scripts.clone());
+    let [for_damage, for_memory, for_clauses] = [(); 3].map(|()| scripts.clone());
     vec![
         Family {
-            name: "scripts",
-            cases: 2_520,
-            check: Box::new(move |case| scripts::check(&scripts::script_of(case, &scripts), &mut Random::new(!case as u64))),
-            meets: &[0, 2, 3, 4, 5, 6, 7, 101, 102, 103, 104, 111, 112, 114, 115, 121, 122, 123, 131, 132],
-        },
-        Family {
-            name: "damaged-scripts",
-            cases: 600,
-            check: Box::new(move |case| script_bytes::check_damaged(case, &for_damage)),
-            meets: &[0, 1, 9, 10, 11],
+            name: "labels",
+            cases: 1 + 1_000_000 / TRIPLES,
+            check: Box::new(|case| if case == 0 { labels::check_cases() } else { labels::check_random(case, TRIPLES) }),
+            meets: &[0, 1, 112, 113, 114],
         },
         Family {
             name: "script-bytes",
-            cases: 3 + script_bytes::CHUNKS,
+            cases: 4 + script_bytes::CHUNKS,
             check: Box::new(|case| match case {
                 0 => script_bytes::check_lengths(),
                 1 => script_bytes::check_rooms(),
-                2 => script_bytes::check_each_value(),
-                _ => script_bytes::check_each_byte(case - 3),
+                2 => script_bytes::check_orders(),
+                3 => script_bytes::check_each_value(),
+                _ => script_bytes::check_each_byte(case - 4),
             }),
             meets: &[0, 1, 9, 10, 11, 12],
         },
@@ -73,18 +68,30 @@ fn families() -> Vec<Family> {
             check: Box::new(networks::check_network),
             meets: &[0, 1, 2, 3, 4, 5, 6, 7, 8, 12, 101, 102, 103, 104, 111, 112, 113, 114, 115, 121, 122, 123, 131, 132, 133],
         },
-        Family {
-            name: "damaged-memory",
-            cases: 15_000,
-            check: Box::new(move |case| networks::check_damaged(case, &for_memory)),
-            meets: &[0, 1, 2, 6],
-        },
         Family { name: "memory-lengths", cases: 300, check: Box::new(networks::check_lengths), meets: &[0, 1] },
         Family {
-            name: "labels",
-            cases: 1 + 1_000_000 / TRIPLES,
-            check: Box::new(|case| if case == 0 { labels::check_cases() } else { labels::check_random(case, TRIPLES) }),
-            meets: &[0, 1, 112, 113, 114],
+            name: "broken-clauses",
+            cases: 2_000,
+            check: Box::new(move |case| damage::check_clauses(case, &for_clauses)),
+            meets: &[1],
+        },
+        Family {
+            name: "damaged-memory",
+            cases: 12_000,
+            check: Box::new(move |case| damage::check_bytes(case, &for_memory)),
+            meets: &[0, 1, 2, 6],
+        },
+        Family {
+            name: "damaged-scripts",
+            cases: 600,
+            check: Box::new(move |case| script_bytes::check_damaged(case, &for_damage)),
+            meets: &[0, 1, 9, 10, 11],
+        },
+        Family {
+            name: "scripts",
+            cases: 2_520,
+            check: Box::new(move |case| scripts::check(&scripts::script_of(case, &scripts), &mut Random::new(!case as u64))),
+            meets: &[0, 2, 3, 4, 5, 6, 7, 101, 102, 103, 104, 111, 112, 114, 115, 121, 122, 123, 131, 132],
         },
     ]
 }

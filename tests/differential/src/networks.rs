@@ -1,15 +1,13 @@
-//! Memory that no list of calls makes: random networks in range, damaged ones, and slices of other lengths.
+//! Memory that no list of calls makes: random networks in range, and slices of other lengths.
 
 use crate::calls::{answer_of, Call, Desk, OUT};
 use crate::random::Random;
-use crate::scripts::{script_of, Script};
 use crate::tally::Tally;
 use reference::label::{Label, UNASSIGNED};
 use reference::network::{
     Bytes, Network, Packet, Record, Row, Successor, ERROR, LENGTH, MAX_PACKETS, MAX_STATIONS, MAX_SUCCESSORS, NO_PACKET, NO_ROW, REPLY,
     REQUEST,
 };
-use std::mem::{offset_of, size_of};
 
 /// The numbers that a network's labels are made of: few, so that equal and neighbouring ones meet.
 struct Palette {
@@ -56,12 +54,15 @@ fn some_number(random: &mut Random) -> u32 {
     random.of(&[0, 1, 2, 3, u32::MAX - 1, u32::MAX])
 }
 
+/// A row in range, of low labels only now and then, which stay where a reply is taken.
 fn some_row(random: &mut Random, palette: &Palette, n: usize, holder: usize) -> Row {
     let mut row = NO_ROW;
-    for _ in 0..random.between(0, MAX_SUCCESSORS) {
+    let low = random.percent(30);
+    for _ in 0..random.between(0, 2 * MAX_SUCCESSORS) {
         let station = random.below(n);
+        let label = if low { palette.own_label(random) } else { palette.label(random) };
         if station != holder {
-            row.put(Successor { station: station as u8, label: palette.label(random) });
+            row.put(Successor { station: station as u8, label });
         }
     }
     row
@@ -163,7 +164,7 @@ fn some_place(random: &mut Random, in_air: usize) -> usize {
 }
 
 /// A call that mostly names stations and packets that there are.
-fn some_call(random: &mut Random, n: usize, in_air: usize) -> Call {
+pub fn some_call(random: &mut Random, n: usize, in_air: usize) -> Call {
     const WEIGHTS: [usize; 18] = [1, 6, 8, 10, 4, 3, 60, 3, 8, 10, 1, 1, 2, 2, 2, 2, 2, 2];
     let (a, b) = (some_station(random, n), some_station(random, n));
     let k = some_place(random, in_air);
@@ -210,72 +211,6 @@ pub fn check_network(case: usize) -> Result<Tally, String> {
             return Err(format!("call {step}: {call:?}: a network in range is taken for one out of range"));
         }
         tally.count(answer_of(result));
-    }
-    Ok(tally)
-}
-
-/// A byte of the layout, mostly one that tells something of a network of n stations with packets in the air.
-fn some_byte(random: &mut Random, network: &Network) -> usize {
-    let n = network.stations();
-    let (i, t) = (random.below(n), random.below(n));
-    let pair = MAX_STATIONS * i + t;
-    match random.below(10) {
-        0 => offset_of!(Network, sought) + i,
-        1 => offset_of!(Network, active) + i,
-        2 => offset_of!(Network, links) + pair,
-        3 => offset_of!(Network, labels) + size_of::<Label>() * pair + random.below(size_of::<Label>()),
-        4 => offset_of!(Network, rows) + size_of::<Row>() * pair,
-        5 => offset_of!(Network, rows) + size_of::<Row>() * pair + random.below(size_of::<Row>()),
-        6 => offset_of!(Network, records) + size_of::<Record>() * pair + random.below(size_of::<Record>()),
-        7 | 8 => {
-            let k = random.below(usize::from(network.in_air).max(1));
-            offset_of!(Network, packets) + size_of::<Packet>() * k + random.below(size_of::<Packet>())
-        }
-        _ => match random.below(3) {
-            0 => offset_of!(Network, n),
-            1 => offset_of!(Network, in_air),
-            _ => random.below(LENGTH),
-        },
-    }
-}
-
-/// The network after a script, or a random one.
-fn whole_network(random: &mut Random, case: usize, examples: &[Script]) -> Box<Network> {
-    if random.percent(50) {
-        return some_network(random);
-    }
-    let script = script_of(case, examples);
-    let mut network = Network::fresh(script.n, script.start);
-    for (_, kind, a, b) in script.events() {
-        let _ = network.event(kind, a, b);
-    }
-    network
-}
-
-/// Calls on a network of which a few bytes were changed.
-pub fn check_damaged(case: usize, examples: &[Script]) -> Result<Tally, String> {
-    let mut random = Random::new(case as u64);
-    let mut tally = Tally::default();
-    let network = whole_network(&mut random, case, examples);
-    for trial in 0..30 {
-        let mut bytes = network.bytes().to_vec();
-        let mut changes = vec![];
-        for _ in 0..random.between(1, 3) {
-            let at = some_byte(&mut random, &network);
-            bytes[at] = match random.below(4) {
-                0 => bytes[at] ^ 1 << random.below(8),
-                1 => random.of(&[0, 1, 2, 3, 4, 5, 16, 17, 128, 129, 255]),
-                2 => (network.stations() + random.below(2)) as u8,
-                _ => random.byte(),
-            };
-            changes.push(format!("{} is {}", crate::calls::place(at), bytes[at]));
-        }
-        let mut desk = Desk::new(&bytes);
-        for _ in 0..2 {
-            let call = some_call(&mut random, network.stations(), usize::from(network.in_air));
-            let result = desk.call(call, OUT).map_err(|what| format!("trial {trial}, where {}: {what}", changes.join(", ")))?;
-            tally.count(answer_of(result));
-        }
     }
     Ok(tally)
 }

@@ -174,10 +174,14 @@ pub fn styled(random: &mut Random, style: &Style, n: usize, start: u64, events: 
     growing.script
 }
 
-/// A script that begins with the events of another, all or some of them, and goes on in a style.
-fn continued(random: &mut Random, style: &Style, first: &Script, start: u64, events: usize) -> Script {
+/// A script that begins with the events of an example, all or most of them, and goes on in a style. Mostly it is the longest, which
+/// leads to the largest denominators.
+fn continued(random: &mut Random, style: &Style, examples: &[Script], start: u64, events: usize) -> Script {
+    let longest = examples.iter().max_by_key(|script| script.kinds.len()).unwrap();
+    let first = if random.percent(60) { longest } else { &examples[random.below(examples.len())] };
     let mut growing = Growing::new(first.n, start);
-    let taken = if random.percent(50) { first.kinds.len() } else { random.below(first.kinds.len() + 1) };
+    let all = first.kinds.len();
+    let taken = if random.percent(50) { all } else { random.between(2 * all / 3, all) };
     for (_, kind, a, b) in first.events().take(taken) {
         growing.push(kind, a, b);
     }
@@ -198,7 +202,7 @@ pub fn script_of(case: usize, examples: &[Script]) -> Script {
     };
     let start = some_start(&mut random);
     if round % 7 == 6 {
-        continued(&mut random, style, &examples[case % examples.len()], start, events)
+        continued(&mut random, style, examples, start, events)
     } else {
         styled(&mut random, style, n, start, events)
     }

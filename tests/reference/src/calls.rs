@@ -1,7 +1,7 @@
 //! 01, "What each call does", on memory in range. A call that is turned down ends with the first number of 01's table that applies,
 //! before it writes anything; the tests come in 01's order: 2, 3 to 6, 8, 7.
 
-use crate::label::{new_label, UNASSIGNED};
+use crate::label::{new_label, Label, UNASSIGNED};
 use crate::network::{Network, Packet, Record, Successor, ERROR, MAX_PACKETS, NO_PACKET, NO_ROW, REPLY, REQUEST};
 
 /// What an accepted call tells: its outcome number (0: none), the packets that it sent, and Trace's hops.
@@ -130,33 +130,28 @@ impl Network {
         }
     }
 
-    /// "Request R from j: .."
     fn deliver_request(&mut self, k: usize) -> Answer {
         let r = self.packets[k];
         let (i, source, t) = (usize::from(r.receiver), usize::from(r.source), usize::from(r.destination));
+        // "101, nothing done, if i is the source or i's record for the source has a number not below R's."
         if i == source || self.records[i][source].number >= r.number {
             self.remove_packet(k);
             return done(101, 0);
         }
+        // "if i's row isn't empty and (own s > R's s, or R's label is above i's and the reset bit is 0), it replies with its label"
         let own = self.labels[i][t];
         let replies = i == t || !self.rows[i][t].is_empty() && (own.s > r.label.s || r.label.above(own) && r.reset == 0);
         let copies = if replies { 1 } else { self.neighbours(i).count() };
         self.test_room(1, copies)?;
 
         self.remove_packet(k);
+        // "the record is rewritten with R's number, destination, label as C, j, and nothing passed."
         self.records[i][source] = Record { number: r.number, destination: r.destination, cached: r.label, last_hop: r.sender, passed: 0 };
         if !replies {
-            let label = if r.label.above(own) { own } else { r.label };
-            let reset = if own == UNASSIGNED && r.label == UNASSIGNED || own.s > r.label.s {
-                0
-            } else if !r.label.above(own) && u64::from(own.d) + u64::from(r.label.d) > u64::from(u32::MAX) {
-                1
-            } else {
-                r.reset
-            };
-            self.broadcast(i, Packet { label, reset, ..r });
+            self.broadcast(i, onward(&r, own));
             return done(103, copies);
         }
+        // "with the reset bit set and own s ≤ R's s, own s becomes R's s + 1 (104 and no reply if that exceeds 64 bits)"
         if i == t && r.reset == 1 && own.s <= r.label.s {
             match r.label.s.checked_add(1) {
                 Some(s) => self.labels[i][i].s = s,
@@ -167,17 +162,20 @@ impl Network {
         done(102, 1)
     }
 
-    /// "Reply V from j: .." It sends one packet at most, in the place of the one that is gone, so it is never turned down with 7.
+    /// It sends one packet at most, in the place of the one that is gone, so it is never turned down with 7.
     fn deliver_reply(&mut self, k: usize) -> Answer {
         let v = self.packets[k];
         let (i, source, t) = (usize::from(v.receiver), usize::from(v.source), usize::from(v.destination));
         self.remove_packet(k);
+        // "111, nothing done, if i is the destination, or V's number and destination don't both match (at the source: its last request;
+        // elsewhere: its record). C is unassigned at the source, else the record's."
         let record = self.records[i][source];
         let (number, destination, cached) =
             if i == source { (self.numbers[i], self.sought[i], UNASSIGNED) } else { (record.number, record.destination, record.cached) };
         if i == t || v.number != number || v.destination != destination {
             return done(111, 0);
         }
+        // "New label with i's label: 112, 113, 114 set nothing. Otherwise 115: the label is taken; ..; a source becomes passive."
         let outcome = match new_label(self.labels[i][t], cached, v.label) {
             Err(number) => number,
             Ok(label) => {
@@ -191,6 +189,8 @@ impl Network {
                 115
             }
         };
+        // "if i isn't the source, hasn't passed a reply, has a non-empty row, C is above its label and the last hop's link is up, it
+        // sends a reply with its label there and marks the record."
         let passes_on = i != source
             && record.passed == 0
             && !self.rows[i][t].is_empty()
@@ -228,16 +228,12 @@ impl Network {
         if emptied != 0 {
             self.broadcast(i, error(emptied));
         }
-        done(
-            if !removed {
-                121
-            } else if emptied == 0 {
-                122
-            } else {
-                123
-            },
-            sent,
-        )
+        let outcome = match (removed, emptied) {
+            (false, _) => 121,
+            (true, 0) => 122,
+            _ => 123,
+        };
+        done(outcome, sent)
     }
 
     /// The mask of i's rows, for destinations of a mask, that j alone stands in.
@@ -282,6 +278,20 @@ impl Network {
         };
         Ok(Done { outcome, sent: 0, hops: hops as u32 })
     }
+}
+
+/// A request sent on by a station with this label: "The new label is i's if R's is above it, else R's. The bit is 0 if both are unassigned
+/// or own s > R's s; else 1 if R's label isn't above i's and the two denominators sum past 4,294,967,295; else R's."
+fn onward(r: &Packet, own: Label) -> Packet {
+    let label = if r.label.above(own) { own } else { r.label };
+    let reset = if own == UNASSIGNED && r.label == UNASSIGNED || own.s > r.label.s {
+        0
+    } else if !r.label.above(own) && u64::from(own.d) + u64::from(r.label.d) > u64::from(u32::MAX) {
+        1
+    } else {
+        r.reset
+    };
+    Packet { label, reset, ..*r }
 }
 
 fn error(mask: u16) -> Packet {

@@ -93,6 +93,19 @@ pub const NO_RECORD: Record = Record { number: 0, destination: 0, cached: UNASSI
 pub const NO_PACKET: Packet =
     Packet { sender: 0, receiver: 0, kind: 0, source: 0, number: 0, destination: 0, label: NO_LABEL, reset: 0, mask: 0 };
 
+pub const NO_NETWORK: Network = Network {
+    n: 0,
+    numbers: [0; MAX_STATIONS],
+    sought: [0; MAX_STATIONS],
+    active: [0; MAX_STATIONS],
+    links: [[0; MAX_STATIONS]; MAX_STATIONS],
+    labels: [[UNASSIGNED; MAX_STATIONS]; MAX_STATIONS],
+    rows: [[NO_ROW; MAX_STATIONS]; MAX_STATIONS],
+    records: [[NO_RECORD; MAX_STATIONS]; MAX_STATIONS],
+    in_air: 0,
+    packets: [NO_PACKET; MAX_PACKETS],
+};
+
 impl Row {
     pub fn successors(&self) -> &[Successor] {
         &self.entries[..usize::from(self.count)]
@@ -147,34 +160,15 @@ impl Network {
     /// "In fresh memory every station is passive with last sought 0, and every record has number, destination and last hop 0, C
     /// unassigned and nothing passed." "Station t's label for itself is (start, 0/1) .. All other labels start unassigned."
     pub fn open(&mut self, n: usize, start: u64) {
+        *self = NO_NETWORK;
         self.n = n as u8;
-        self.numbers = [0; MAX_STATIONS];
-        self.sought = [0; MAX_STATIONS];
-        self.active = [0; MAX_STATIONS];
-        self.links = [[0; MAX_STATIONS]; MAX_STATIONS];
-        self.labels = [[UNASSIGNED; MAX_STATIONS]; MAX_STATIONS];
-        self.rows = [[NO_ROW; MAX_STATIONS]; MAX_STATIONS];
-        self.records = [[NO_RECORD; MAX_STATIONS]; MAX_STATIONS];
-        self.in_air = 0;
-        self.packets = [NO_PACKET; MAX_PACKETS];
         for t in 0..n {
             self.labels[t][t] = Label::new(start, 0, 1);
         }
     }
 
     pub fn fresh(n: usize, start: u64) -> Box<Network> {
-        let mut network = Box::new(Network {
-            n: 0,
-            numbers: [0; MAX_STATIONS],
-            sought: [0; MAX_STATIONS],
-            active: [0; MAX_STATIONS],
-            links: [[0; MAX_STATIONS]; MAX_STATIONS],
-            labels: [[UNASSIGNED; MAX_STATIONS]; MAX_STATIONS],
-            rows: [[NO_ROW; MAX_STATIONS]; MAX_STATIONS],
-            records: [[NO_RECORD; MAX_STATIONS]; MAX_STATIONS],
-            in_air: 0,
-            packets: [NO_PACKET; MAX_PACKETS],
-        });
+        let mut network = Box::new(NO_NETWORK);
         network.open(n, start);
         network
     }
