@@ -1,8 +1,8 @@
 //! The speed of the proved library beside the Rust build, both built for release, on the same inputs in one run. Prints tables in
 //! Markdown.
 //!
-//! Each round times one build and then the other; the table has the median of the rounds, and the ratio of each round from the lowest
-//! to the highest.
+//! Each round times one build and then the other, for some milliseconds, since the machine may not be as fast in the next. The tables
+//! have the medians of the rounds and of their ratios, and between which the middle half of the ratios lies.
 
 use differential::calls::{answer_of, by_library, by_reference, call_of, Call};
 use differential::program::root;
@@ -17,7 +17,7 @@ use std::path::Path;
 use std::process::{Command, Stdio};
 use std::time::Instant;
 
-const ROUNDS: usize = 15;
+const ROUNDS: usize = 41;
 
 /// Nanoseconds for each thing done, of each build, in each round.
 #[derive(Default)]
@@ -58,14 +58,14 @@ impl Times {
     fn print(&self, what: &str) {
         let ratios = sorted(self.library.iter().zip(&self.reference).map(|(a, b)| a / b));
         let (library, reference) = (median(self.library.iter().copied()), median(self.reference.iter().copied()));
-        let (lowest, middle, highest) = (ratios[0], ratios[ROUNDS / 2], ratios[ROUNDS - 1]);
-        println!("| {what} | {} | {} | {middle:.1} | {lowest:.1} to {highest:.1} |", rounded(library), rounded(reference));
+        let [low, middle, high] = [1, 2, 3].map(|quarter| ratios[ROUNDS * quarter / 4]);
+        println!("| {what} | {} | {} | {middle:.1} | {low:.1} to {high:.1} |", rounded(library), rounded(reference));
         eprintln!("bench: {what}");
     }
 }
 
 fn heading(title: &str) {
-    println!("\n{title}\n\n| | Library | Rust build | Ratio | in {ROUNDS} rounds |\n|---|---|---|---|---|");
+    println!("\n{title}\n\n| | Library | Rust build | Ratio | Middle half of {ROUNDS} rounds |\n|---|---|---|---|---|");
 }
 
 /// Nanoseconds for each of so many.
@@ -86,7 +86,7 @@ fn run_program(program: &Path, script: &[u8]) {
 
 /// Nanoseconds for each event: a run of the script, less a run of a script of no event. Of each the shortest of some runs is taken.
 fn per_event(program: &Path, script: &Script) -> f64 {
-    const RUNS: usize = 10;
+    const RUNS: usize = 3;
     let none = Script { kinds: vec![], operands: vec![], ..script.clone() };
     let [all, none] = [script, &none].map(|script| {
         let bytes = script.bytes();
@@ -146,15 +146,17 @@ fn bench_parts(scripts: &[(String, Script)]) {
     println!("\nNanoseconds for each event in the Rust build alone.\n");
     println!("| | In place | with the range test | and with the free places put as the layout says |\n|---|---|---|---|");
     for (what, script) in scripts {
-        let time = |ranged, settled| median((0..ROUNDS).map(|_| events_of(script, ranged, settled)));
-        println!("| {what} | {:.0} | {:.0} | {:.0} |", time(false, false), time(true, false), time(true, true));
+        let rounds: Vec<_> =
+            (0..ROUNDS).map(|_| [(false, false), (true, false), (true, true)].map(|(r, s)| events_of(script, r, s))).collect();
+        let [plain, ranged, settled] = [0, 1, 2].map(|part| rounded(median(rounds.iter().map(|round| round[part]))));
+        println!("| {what} | {plain} | {ranged} | {settled} |");
         eprintln!("bench: {what}");
     }
 }
 
 /// One call, each time on the same bytes: they are copied before the call, and the copy's time is taken off.
 fn calls_on(make: Make, network: &[u8], call: Call) -> f64 {
-    const CALLS: usize = 2_000;
+    const CALLS: usize = 300;
     let mut memory = network.to_vec();
     let mut out = [0; 100];
     let copied = timed(CALLS, || (0..CALLS).for_each(|_| black_box(&mut memory).copy_from_slice(black_box(network))));
@@ -220,7 +222,7 @@ fn bench_calls(scripts: &[(String, Script)]) {
 // ---- New label and scripts
 
 fn label_times(new_label: fn(Label, Label, Label) -> u64, triples: &[[Label; 3]]) -> f64 {
-    const TURNS: usize = 50;
+    const TURNS: usize = 20;
     timed(TURNS * triples.len(), || {
         for _ in 0..TURNS {
             for &[own, cached, advertised] in black_box(triples) {
@@ -248,7 +250,7 @@ fn bench_labels() {
 }
 
 fn bench_script_bytes(script: &Script) {
-    const TURNS: usize = 200;
+    const TURNS: usize = 100;
     heading("Nanoseconds for each event of a script of 4,096 that is read or written; the arrays are not cleared.");
     let bytes = script.bytes();
     let mut arrays = (vec![0; 4096], vec![0; 8192]);

@@ -59,21 +59,3 @@ pub fn new_label(own: Label, cached: Label, advertised: Label) -> Result<Label, 
     }
     fitting(v.s, u64::from(c.m) + u64::from(v.m), u64::from(c.d) + u64::from(v.d))
 }
-
-#[cfg(test)]
-mod tests {
-    use super::*;
-
-    /// 01: "From 0/1 and 1/1, splitting the newest two each time works 45 times (denominator 2,971,215,073); the 46th doesn't fit."
-    #[test]
-    fn splits() {
-        let (mut newest, mut before) = (Label::new(1, 1, 1), Label::new(1, 0, 1));
-        for _ in 0..45 {
-            let m = u64::from(newest.m) + u64::from(before.m);
-            let d = u64::from(newest.d) + u64::from(before.d);
-            (newest, before) = (fitting(1, m, d).unwrap(), newest);
-        }
-        assert_eq!({ newest.d }, 2_971_215_073);
-        assert_eq!(fitting(1, 0, u64::from(newest.d) + u64::from(before.d)), Err(DOES_NOT_FIT));
-    }
-}

@@ -142,8 +142,11 @@ impl Row {
 
     /// Zeros past the count.
     pub fn settle(&mut self) {
-        let count = usize::from(self.count).min(MAX_SUCCESSORS);
-        self.entries[count..].fill(NO_SUCCESSOR);
+        for at in 0..MAX_SUCCESSORS {
+            if at >= usize::from(self.count) {
+                self.entries[at] = NO_SUCCESSOR;
+            }
+        }
     }
 
     /// "successors whose stored label it isn't above leave the row".
@@ -313,9 +316,8 @@ impl Network {
     /// The bytes that an accepted call leaves where the network has nothing (docs/LAYOUT.md, "After a call"): zeros past each count,
     /// and in the places of no station what stood there, but for a flag that was not 1.
     pub fn settle(&mut self) {
-        for byte in self.active.iter_mut().chain(self.links.as_flattened_mut()) {
-            *byte = u8::from(*byte == 1);
-        }
+        settle_flags(&mut self.active);
+        settle_flags(self.links.as_flattened_mut());
         for record in self.records.as_flattened_mut() {
             record.passed = u8::from(record.passed == 1);
         }
@@ -326,4 +328,10 @@ impl Network {
 
 fn is_flag(byte: u8) -> bool {
     byte < 2
+}
+
+fn settle_flags(flags: &mut [u8]) {
+    for flag in flags {
+        *flag = u8::from(*flag == 1);
+    }
 }
