@@ -39,7 +39,7 @@ fn median(values: impl Iterator<Item = f64>) -> f64 {
 
 /// Nanoseconds with three digits or more.
 fn rounded(time: f64) -> String {
-    format!("{time:.*}", if time < 10.0 { 2 } else { usize::from(time < 100.0) })
+    format!("{time:.*}", if time < 9.995 { 2 } else { usize::from(time < 99.95) })
 }
 
 impl Times {
