@@ -41,24 +41,27 @@ fn outcome_of(result: u64, advertised: Label) -> Outcome {
 
 /// 01's rule in 128 bits, on s, m and d as whole numbers.
 fn in_128_bits(labels: Triple) -> Outcome {
-    let [a, c, v] = labels.map(|label| (u128::from(label.s), u128::from(label.m), u128::from(label.d)));
-    let in_range = |(s, m, d): (u128, u128, u128)| (s, m, d) == (0, 1, 1) || s > 0 && m < d;
-    let above = |x: (u128, u128, u128), y: (u128, u128, u128)| x.0 < y.0 || x.0 == y.0 && y.1 * x.2 < x.1 * y.2;
-    let sum = |m: u128, d: u128| {
-        if v.2 + d > u128::from(u32::MAX) {
-            Err(114)
-        } else {
-            Ok(l(labels[2].s, (v.1 + m) as u32, (v.2 + d) as u32))
-        }
+    type Whole = (u128, u128, u128);
+    let [a, c, v]: [Whole; 3] = labels.map(|label| (label.s.into(), label.m.into(), label.d.into()));
+    let in_range = |(s, m, d): Whole| (s, m, d) == (0, 1, 1) || s > 0 && m < d;
+    let above = |x: Whole, y: Whole| x.0 < y.0 || x.0 == y.0 && y.1 * x.2 < x.1 * y.2;
+    // V's fraction split with another.
+    let split = |m: u128, d: u128| match u32::try_from(v.2 + d) {
+        Ok(d) => Ok(l(labels[2].s, (v.1 + m) as u32, d)),
+        Err(_) => Err(114),
     };
-    match () {
-        _ if !(in_range(a) && in_range(c) && in_range(v)) => Err(1),
-        _ if !above(a, v) => Err(112),
-        _ if !above(c, v) => Err(113),
-        _ if a.0 < v.0 && c.0 < v.0 => sum(1, 1),
-        _ if a.0 < v.0 && c.0 == v.0 => sum(c.1, c.2),
-        _ if above(c, a) => Ok(labels[0]),
-        _ => sum(c.1, c.2),
+    if !(in_range(a) && in_range(c) && in_range(v)) {
+        Err(1)
+    } else if !above(a, v) {
+        Err(112)
+    } else if !above(c, v) {
+        Err(113)
+    } else if a.0 < v.0 && c.0 < v.0 {
+        split(1, 1)
+    } else if a.0 == v.0 && above(c, a) {
+        Ok(labels[0])
+    } else {
+        split(c.1, c.2)
     }
 }
 

@@ -141,19 +141,17 @@ fn check_family(family: &Family) -> Result<Tally, (usize, String)> {
     }
 }
 
-/// How often each family met each answer.
+/// How often each family met each answer, and all together.
 fn print_met(tallies: &[(&Family, Tally)]) {
-    print!("{:>6}", "answer");
-    for (family, _) in tallies {
-        print!(" {:>15}", family.name);
-    }
-    println!();
-    for answer in (0..ANSWERS).filter(|&answer| tallies.iter().any(|(_, tally)| tally.met[answer] > 0)) {
-        print!("{answer:>6}");
-        for (_, tally) in tallies {
-            print!(" {:>15}", tally.met[answer]);
+    let names: String = tallies.iter().map(|(family, _)| format!(" {:>15}", family.name)).collect();
+    println!("answer{names} {:>15}", "all");
+    for answer in 0..ANSWERS {
+        let met: Vec<u64> = tallies.iter().map(|(_, tally)| tally.met[answer]).collect();
+        let all: u64 = met.iter().sum();
+        if all > 0 {
+            let numbers: String = met.iter().map(|number| format!(" {number:>15}")).collect();
+            println!("{answer:>6}{numbers} {all:>15}");
         }
-        println!();
     }
 }
 
