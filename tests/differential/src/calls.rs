@@ -123,6 +123,7 @@ impl Desk {
         Network::of(&self.reference).unwrap()
     }
 
+    /// Keeps what stands in memory before a call, and clears the output slices.
     fn begin(&mut self) {
         self.before.copy_from_slice(&self.library);
         self.library_out = [UNUSED; OUT];
@@ -156,8 +157,11 @@ impl Desk {
         Ok(result)
     }
 
-    /// Whether all bytes are the same, and as before where the call was turned down.
+    /// Whether all bytes are the same, and as before where the call was turned down, which then counts nothing.
     fn compare(&self, result: u64) -> Result<(), String> {
+        if is_refused(result) && count_of(result) != 0 {
+            return Err("it was turned down, and the library counts".into());
+        }
         if is_refused(result) && (self.library != self.before || self.library_out != [UNUSED; OUT]) {
             return Err("it was turned down, and the library wrote".into());
         }
