@@ -2,7 +2,7 @@
 
 use crate::calls::{answer_of, count_of};
 use crate::random::Random;
-use crate::scripts::{check_program, script_of, Script};
+use crate::scripts::{check_program, script_of, with_script, Script};
 use crate::tally::Tally;
 use reference::console;
 use reference::script::{length, uses_b, HEAD, MAX_EVENTS};
@@ -15,7 +15,7 @@ fn check_read(tally: &mut Tally, script: &[u8], kinds: usize, operands: usize) -
     let (mut library, mut reference) = (arrays(), arrays());
     let result = library::read_script(script, &mut library.0, &mut library.1);
     let wanted = console::read_script(script, &mut reference.0, &mut reference.1);
-    let fails = |what: &str| Err(format!("reading {} bytes into {kinds} and {operands}: {what}", script.len()));
+    let fails = |what: &str| Err(with_script(&format!("reading {} bytes into {kinds} and {operands}: {what}", script.len()), script));
     tally.count(answer_of(result));
     if result != wanted {
         return fails(&format!("the library answers {}, the Rust build {}", answer_of(result), answer_of(wanted)));
@@ -47,7 +47,8 @@ fn check_write(tally: &mut Tally, n: usize, start: u64, kinds: &[u8], operands: 
     let result = library::write_script(n, start, kinds, operands, &mut library);
     let wanted = console::write_script(n, start, kinds, operands, &mut reference);
     let fails = |what: &str| {
-        Err(format!("writing n = {n}, start = {start}, {} kinds and {} operands into {room} bytes: {what}", kinds.len(), operands.len()))
+        let sizes = format!("n = {n}, start = {start}, {} kinds and {} operands into {room} bytes", kinds.len(), operands.len());
+        Err(with_script(&format!("writing {sizes}: {what}; the kinds and operands:"), &[kinds, operands].concat()))
     };
     tally.count(answer_of(result));
     if result != wanted {
@@ -227,9 +228,8 @@ pub fn check_damaged(case: usize, examples: &[Script]) -> Result<Tally, String> 
             1 => bytes.extend(vec![0; random.below(8)]),
             _ => (),
         }
-        let hex = || bytes.iter().map(|byte| format!("{byte:02x}")).collect::<String>();
-        let check = check_read_whole(&mut tally, &bytes).and_then(|()| check_program(&bytes));
-        check.map_err(|what| format!("{what}\nscript:\n{}", hex()))?;
+        check_read_whole(&mut tally, &bytes)?;
+        check_program(&bytes)?;
     }
     Ok(tally)
 }

@@ -208,17 +208,15 @@ pub fn script_of(case: usize, examples: &[Script]) -> Script {
     }
 }
 
-/// Hexadecimal, grouped as 01 writes its example.
-pub fn hex(script: &Script) -> String {
-    let digits = |bytes: &[u8]| bytes.iter().map(|byte| format!("{byte:02x}")).collect::<String>();
-    let bytes = script.bytes();
-    let groups = [&bytes[..1], &bytes[1..3], &bytes[3..script::HEAD], &script.kinds].into_iter().chain(script.operands.chunks(2));
-    groups.map(digits).collect::<Vec<_>>().join(" ")
+/// What failed, with a script's bytes in hexadecimal.
+pub fn with_script(what: &str, bytes: &[u8]) -> String {
+    let digits: String = bytes.iter().map(|byte| format!("{byte:02x}")).collect();
+    format!("{what}\nscript:\n{digits}")
 }
 
 /// What failed, with the script up to there.
 fn failure(script: &Script, events: usize, what: String) -> String {
-    format!("{what}\nscript:\n{}", hex(&script.cut(events)))
+    with_script(&what, &script.cut(events).bytes())
 }
 
 /// Each route goes strictly lower: what demand 3 rests on, asked of the memory itself.
@@ -271,7 +269,7 @@ pub fn check(script: &Script, random: &mut Random) -> Result<Tally, String> {
         }
     }
     check_routes(desk.network()).map_err(|what| failure(script, script.kinds.len(), what))?;
-    check_program(&script.bytes()).map_err(|what| failure(script, script.kinds.len(), what))?;
+    check_program(&script.bytes())?;
     Ok(tally)
 }
 
@@ -289,5 +287,6 @@ pub fn check_program(bytes: &[u8]) -> Result<(), String> {
         .position(|(a, b)| a != b)
         .unwrap_or_else(|| printed.lines().count().min(wanted.lines().count()));
     let line = |text: &str| text.lines().nth(at).unwrap_or("(no line)").to_string();
-    Err(format!("line {} of the printouts, the program's and the Rust build's:\n{}\n{}", at + 1, line(&printed), line(&wanted)))
+    let what = format!("line {} of the printouts, the program's and the Rust build's:\n{}\n{}", at + 1, line(&printed), line(&wanted));
+    Err(with_script(&what, bytes))
 }
