@@ -3,11 +3,12 @@ ghost use mathlib.Core.Path.{_≡_};
 ghost use mathlib.Core.Bool.{not};
 ghost use mathlib.Core.List.{[], _∷_, _++_, map};
 ghost use Prim.Native.Nat.{suc, _+_, _<_, _≤_};
-ghost use lib.ListN.{length, take, drop};
+ghost use lib.ListN.{length, take, drop, set};
 ghost use Rattle.base.specs.Lists.{keep, below};
 ghost use Rattle.model.specs.Memory.{linkIn, request, reply, error};
 ghost use Rattle.model.specs.Calls.{packet, between};
 ghost use Rattle.network.specs.View.{bodyOf, packetOf, airOf};
+ghost use Rattle.network.specs.Packets.{removed};
 use crate::Air;
 use crate::Packet;
 use crate::RequestNumber;
@@ -83,34 +84,46 @@ pub fn addressed(p: Packet, a: u8, b: u8) -> Packet
     next
 }
 
+// Packet p stored at place `count` of the lent packets.
+fn append_to(packets: &mut [Packet], count: usize, p: Packet)
+    requires { ⌜ count < length (now packets) ⌝ }
+    ensures { λ _. ⌜ now (packets .exit) ≡ set (now (packets .entry)) count p ⌝ }
+{
+    packets[count] = p;
+}
+
+// The lent packets after place k, up to place `last`, moved up by one.
+fn remove_from(packets: &mut [Packet], last: usize, k: usize)
+    requires { ⌜ (k ≤ last) × (last < length (now packets)) ⌝ }
+    ensures { λ _. ⌜ now (packets .exit) ≡ removed k last (now (packets .entry)) ⌝ }
+{
+    let mut i = k;
+    while i < last {
+        packets[i] = packets[i + 1];
+        i += 1;
+    }
+}
+
 // The air with p last.
 pub fn append(mut air: Air, p: Packet) -> Air
     requires { ⌜ air .count < 128 ⌝ }
     ensures { λ r. ⌜ airOf r ≡ airOf air ++ (packetOf p ∷ []) ⌝ }
 {
     let count = air.count;
-    let at = count as usize;
-    air.packets[at] = p;
+    append_to(&mut air.packets, count as usize, p);
     air.count = count + 1;
     air
 }
 
 // The air without packet k; later ones move up.
-pub fn remove(air: Air, k: usize) -> Air
+pub fn remove(mut air: Air, k: usize) -> Air
     requires { ⌜ (k < air .count) × (air .count ≤ 128) ⌝ }
     ensures { λ r. ⌜ airOf r ≡ take k (airOf air) ++ drop (suc k) (airOf air) ⌝ }
 {
-    let count = air.count - 1;
-    let last = count as usize;
-    let mut next = air;
-    let mut i = k;
-    while i < last {
-        let p = air.packets[i + 1];
-        next.packets[i] = p;
-        i += 1;
-    }
-    next.count = count;
-    next
+    let last = air.count - 1;
+    remove_from(&mut air.packets, last as usize, k);
+    air.count = last;
+    air
 }
 
 // Whether p is under way between a and b.
