@@ -4,14 +4,14 @@ use mathlib.Core.Path.{_≡_, refl, sym, ap, ap₂, _∙_}
 use mathlib.Core.Logic.{_≢_}
 use mathlib.Core.Bool.{Bool, true, false, not, _&&_, _||_, and-true, and-assoc}
 use mathlib.Core.List.{List, [], _∷_, _++_, map, append-nil, map-append, append-assoc}
-use lib.ListN.{length, getD, set, take, drop, replicate, length-append, length-set, length-replicate, length-map, getD-replicate, List·getD-append, List·getD-eq-default, List·getD-map}
-use lib.Seq.{ext-getD, getD-at, getD-set-same, getD-set-other, take-suc-set, take-all}
+use lib.ListN.{length, getD, set, take, drop, replicate, take-append-drop, length-append, length-drop, length-set, length-replicate, length-map, getD-replicate, List·getD-append, List·getD-eq-default, List·getD-map}
+use lib.Seq.{ext-getD, getD-at, getD-take, getD-set-same, getD-set-other, length-take-le, take-at, take-suc-set, take-all, slice-empty}
 use lib.Dec.{ltb, leb, eqb}
 use native.Mathlib.Numerals.{add-one}
 use native.Mathlib.Omega.{arith}
 use borrow.Author.Tests.{ltb-true, ltb-false, eqb-true, eqb-false, lt-leb, leb-false, not-true}
 use Rattle.base.specs.Choice.{if_then_else_}
-use Rattle.base.specs.Lists.{allBelow, below, allIn, someIn, keep, isEmpty, tabulate, indexOf, distinct}
+use Rattle.base.specs.Lists.{allBelow, below, allIn, someIn, keep, isEmpty, tabulate, indexOf, distinct, removed}
 use Rattle.base.proofs.Flags.{clash, passes, iff, choose, Against, less, equal, more, against}
 use Rattle.base.proofs.Lists.{all-below, all-below-at, empty-length, distinct-more}
 
@@ -193,45 +193,6 @@ module _ {A : Type 0} where
     pub filled-all : (i : ℕ) → Filled c f l i → i ≡ c → l ≡ tabulate c f
     filled-all i h e = sym (take-all i l (omega (arith, h .long, e))) ∙ h .first ∙ ap (λ k. tabulate k f) e
 
-  -- A list without place k, later ones moved up.
-  removed-length : (l : List A) (k : ℕ) → k < length l → suc (length (take k l ++ drop (suc k) l)) ≡ length l
-  removed-length [] k h = absurd (omega arith)
-  removed-length (x ∷ l) zero h = refl
-  removed-length (x ∷ l) (suc k) h = ap suc (removed-length l k (omega arith))
-
-  removed-before : (l : List A) (k i : ℕ) (d : A) → i < k → k < length l → getD (take k l ++ drop (suc k) l) i d ≡ getD l i d
-  removed-before [] k i d h g = absurd (omega arith)
-  removed-before (x ∷ l) zero i d h g = absurd (omega arith)
-  removed-before (x ∷ l) (suc k) zero d h g = refl
-  removed-before (x ∷ l) (suc k) (suc i) d h g = removed-before l k i d (omega arith) (omega arith)
-
-  removed-after : (l : List A) (k i : ℕ) (d : A) → k ≤ i → k < length l → getD (take k l ++ drop (suc k) l) i d ≡ getD l (suc i) d
-  removed-after [] k i d h g = absurd (omega arith)
-  removed-after (x ∷ l) zero i d h g = refl
-  removed-after (x ∷ l) (suc k) zero d h g = absurd (omega arith)
-  removed-after (x ∷ l) (suc k) (suc i) d h g = removed-after l k i d (omega arith) (omega arith)
-
-  pub tabulate-removed : (c k : ℕ) (f g : ℕ → A) → k ≤ c → ((i : ℕ) → i < k → g i ≡ f i) → ((i : ℕ) → k ≤ i → i < c → g i ≡ f (suc i))
-      → tabulate c g ≡ take k (tabulate (suc c) f) ++ drop (suc k) (tabulate (suc c) f)
-  tabulate-removed c k f g h before after =
-      ext-getD (f 0) (tabulate c g) (take k (tabulate (suc c) f) ++ drop (suc k) (tabulate (suc c) f))
-      (omega (arith, tabulate-length c g, removed-length (tabulate (suc c) f) k short, tabulate-length (suc c) f))
-      (λ i m. at i (omega (arith, tabulate-length c g)))
-    where
-      short : k < length (tabulate (suc c) f)
-      short = omega (arith, tabulate-length (suc c) f)
-
-      at : (i : ℕ) → i < c → getD (tabulate c g) i (f 0) ≡ getD (take k (tabulate (suc c) f) ++ drop (suc k) (tabulate (suc c) f)) i (f 0)
-      at i m = tabulate-at c g i (f 0) m ∙ go (ltb i k) refl
-        where
-          go : (b : Bool) → ltb i k ≡ b → g i ≡ getD (take k (tabulate (suc c) f) ++ drop (suc k) (tabulate (suc c) f)) i (f 0)
-          go true e =
-              let l : i < k = ltb-true i k e in
-              before i l ∙ sym (removed-before (tabulate (suc c) f) k i (f 0) l short ∙ tabulate-at (suc c) f i (f 0) (omega arith))
-          go false e =
-              let l : k ≤ i = ltb-false i k e in
-              after i l m ∙ sym (removed-after (tabulate (suc c) f) k i (f 0) l short ∙ tabulate-at (suc c) f (suc i) (f 0) (omega arith))
-
 -- The values, each changed.
 pub map-tabulate : {A B : Type 0} (g : A → B) (c : ℕ) (f : ℕ → A) → map g (tabulate c f) ≡ tabulate c (λ k. g (f k))
 unfolding tabulate
@@ -241,6 +202,59 @@ map-tabulate {A} {B} g (suc c) f = map-append g (tabulate c f) (f c ∷ []) ∙ 
 -- A list, each element changed, is the changed values at its places.
 pub tabulate-map : {A B : Type 0} (f : A → B) (l : List A) (c : ℕ) (d : A) → length l ≡ c → tabulate c (λ k. f (getD l k d)) ≡ map f l
 tabulate-map f l c d e = tabulate-is (map f l) c (λ k. f (getD l k d)) (f d) (length-map l f ∙ e) (λ k m. sym (List·getD-map f l k d))
+
+-- The same of the first elements of a list.
+pub tabulate-take : {A B : Type 0} (f : A → B) (l : List A) (c : ℕ) (d : A) → c ≤ length l → tabulate c (λ k. f (getD l k d)) ≡ map f (take c l)
+tabulate-take f l c d h = tabulate-same c _ _ (λ k m. ap f (sym (getD-take c l k d m))) ∙ tabulate-map f (take c l) c d (length-take-le c l h)
+
+-- A loop that removes element k: at place i the elements after k have moved up as far as i.
+module _ {A : Type 0} where
+  pub removed-none : (k : ℕ) (l : List A) → removed k k l ≡ l
+  unfolding removed
+  removed-none k l =
+      ap (λ (r : List A). take k l ++ r ++ drop k l) (slice-empty (suc k) l) ∙ ap (λ (r : List A). r ++ drop k l) (append-nil (take k l)) ∙ take-append-drop k l
+
+  first-moved : (i : ℕ) (x d : A) (l : List A) → i < length l → set (take i l ++ drop i (x ∷ l)) i (getD (take i l ++ drop i (x ∷ l)) (suc i) d) ≡ take (suc i) l ++ drop i l
+  first-moved i x d [] h = absurd (omega arith)
+  first-moved zero x d (y ∷ l) h = refl
+  first-moved (suc i) x d (y ∷ l) h = ap (λ (r : List A). y ∷ r) (first-moved i y d l (omega arith))
+
+  one-moved : (k i : ℕ) (d : A) (l : List A) → k ≤ i → suc i < length l → set (removed k i l) i (getD (removed k i l) (suc i) d) ≡ removed k (suc i) l
+  unfolding removed
+  one-moved k i d [] h g = absurd (omega arith)
+  one-moved zero i d (x ∷ l) h g = first-moved i x d l (omega arith)
+  one-moved (suc k) zero d (x ∷ l) h g = absurd (omega arith)
+  one-moved (suc k) (suc i) d (x ∷ l) h g = ap (λ (r : List A). x ∷ r) (one-moved k i d l (omega arith) (omega arith))
+
+  pub removed-more : (k i : ℕ) (d : A) (l : List A) → k ≤ i → i + 1 < length l → set (removed k i l) i (getD (removed k i l) (i + 1) d) ≡ removed k (i + 1) l
+  removed-more k i d l h g = rw (add-one i) (one-moved k i d l h (omega arith))
+
+  pub removed-length : (k last : ℕ) (l : List A) → k ≤ last → last < length l → length (removed k last l) ≡ length l
+  unfolding removed
+  removed-length k last [] h g = absurd (omega arith)
+  removed-length zero last (x ∷ l) h g = length-append (take last l) (drop last (x ∷ l)) ∙ omega (arith, length-take-le last l (omega arith), length-drop last (x ∷ l))
+  removed-length (suc k) zero (x ∷ l) h g = absurd (omega arith)
+  removed-length (suc k) (suc last) (x ∷ l) h g = ap suc (removed-length k last l (omega arith) (omega arith))
+
+  removed-first : (k last : ℕ) (l : List A) → k ≤ last → last < length l → take last (removed k last l) ≡ take k (take (suc last) l) ++ drop (suc k) (take (suc last) l)
+  unfolding removed
+  removed-first k last [] h g = absurd (omega arith)
+  removed-first zero last (x ∷ l) h g = take-at (take last l) (drop last (x ∷ l)) last (length-take-le last l (omega arith))
+  removed-first (suc k) zero (x ∷ l) h g = absurd (omega arith)
+  removed-first (suc k) (suc last) (x ∷ l) h g = ap (λ (r : List A). x ∷ r) (removed-first k last l (omega arith) (omega arith))
+
+map-without : {A B : Type 0} (f : A → B) (k : ℕ) (l : List A) → map f (take k l ++ drop (suc k) l) ≡ take k (map f l) ++ drop (suc k) (map f l)
+map-without f zero [] = refl
+map-without f (suc k) [] = refl
+map-without f zero (x ∷ l) = refl
+map-without {A} {B} f (suc k) (x ∷ l) = ap (λ (r : List B). f x ∷ r) (map-without f k l)
+
+-- Then the first `last` elements are the list without element k.
+pub tabulate-removed : {A B : Type 0} (f : A → B) (k last : ℕ) (d : A) (l : List A) → k ≤ last → last < length l
+    → tabulate last (λ i. f (getD (removed k last l) i d)) ≡ take k (tabulate (suc last) (λ i. f (getD l i d))) ++ drop (suc k) (tabulate (suc last) (λ i. f (getD l i d)))
+tabulate-removed {A} {B} f k last d l h g =
+    tabulate-take f (removed k last l) last d (omega (arith, removed-length k last l h g)) ∙ ap (map f) (removed-first k last l h g) ∙ map-without f k (take (suc last) l)
+    ∙ ap (λ (r : List B). take k r ++ drop (suc k) r) (sym (tabulate-take f l (suc last) d g))
 
 -- Tests of the values, and what is kept of them.
 module _ {A : Type 0} (t : A → Bool) where

@@ -2,6 +2,8 @@
 use Prim.Native.Nat.{ℕ, zero, suc}
 use mathlib.Core.Bool.{Bool, true, false, not, _&&_, _||_}
 use mathlib.Core.List.{List, [], _∷_, _++_}
+use lib.ListN.{take, drop}
+use lib.Seq.{slice}
 use lib.Dec.{eqb}
 use Rattle.base.specs.Choice.{if_then_else_}
 
@@ -51,3 +53,7 @@ indexOf f (x ∷ l) = if f x then 0 else suc (indexOf f l)
 unfoldable pub distinct : List ℕ → Bool
 distinct [] = true
 distinct (x ∷ l) = not (someIn (eqb x) l) && distinct l
+
+-- The elements up to place `last` without element k, later ones moved up; from place `last` on, what stood there.
+unfoldable pub removed : {A : Type 0} → ℕ → ℕ → List A → List A
+removed k last l = take k l ++ slice (suc k) (suc last) l ++ drop last l

@@ -107,9 +107,9 @@ module _ {M : Type 1} {𝓤 : URA M} where
       ∷ ‵ (fauth γ (codedHoleys packet.the-row .code (heres packet.the-row l)))
       ∷ Γ
 
-  -- Packet i of l apart from the others: where it stands, what it owns, and the others.
-  abbrev pub apart : ℕ → ℕ → List Packet → ℕ → Packet → Fml → List (Item 𝓤) → List (Item 𝓤)
-  apart b o l i p own Γ =
+  -- Packet i of l alone: where it stands, what it owns, and the others.
+  abbrev pub alone : ℕ → ℕ → List Packet → ℕ → Packet → Fml → List (Item 𝓤) → List (Item 𝓤)
+  alone b o l i p own Γ =
       ‵ (cellAt fullShare (packet.the-row .mir) (packet-vals p) b (element size o i)) ∷ ‵ own ∷ ‵ (others (shares packet.the-row) fullShare l i b o) ∷ Γ
 
 module _ {M : Type 1} {𝓤 : URA M} {H : Heap 𝓤} {A : Atoms 𝓤} {K : Type 0} {W : Given 𝓤 H A} {Γ : List (Item 𝓤)} where
@@ -138,16 +138,16 @@ module _ {M : Type 1} {𝓤 : URA M} {H : Heap 𝓤} {A : Atoms 𝓤} {K : Type 
   module _ {G : Goal 𝓤 H} (b o : ℕ) (l : List Packet) (i : ℕ) (within : i < length l) where
     -- Packet i is taken out, put back, and replaced by p.
     pub takes-out : K
-        → (ValidPacket (getD l i zeroPacket) → Seq K W (apart b o l i (getD l i zeroPacket) (packet.the-row .own (getD l i zeroPacket) (packet-vals (getD l i zeroPacket))) Γ) G)
+        → (ValidPacket (getD l i zeroPacket) → Seq K W (alone b o l i (getD l i zeroPacket) (packet.the-row .own (getD l i zeroPacket) (packet-vals (getD l i zeroPacket))) Γ) G)
         → Seq K W (‵ (row packet.the-row fullShare l b o) ∷ Γ) G
     takes-out t =
         elem-out t packet.the-row (Is packet.the-row) (shows 𝓤 H A packet.the-row) packet-vals (tells packet.the-type packet′.the-laws) fullShare l i zeroPacket b o within
 
     pub puts-back : K
-        → Step K W (‵ (row packet.the-row fullShare l b o) ∷ Γ) G (apart b o l i (getD l i zeroPacket) (packet.the-row .own (getD l i zeroPacket) (packet-vals (getD l i zeroPacket))) Γ) G
+        → Step K W (‵ (row packet.the-row fullShare l b o) ∷ Γ) G (alone b o l i (getD l i zeroPacket) (packet.the-row .own (getD l i zeroPacket) (packet-vals (getD l i zeroPacket))) Γ) G
     puts-back t = elem-back t packet.the-row fullShare l i zeroPacket (packet-vals (getD l i zeroPacket)) b o within
 
-    pub replaces : K → (p : Packet) {own : Fml} → ValidPacket p → Step K W (‵ (row packet.the-row fullShare (set l i p) b o) ∷ Γ) G (apart b o l i p own Γ) G
+    pub replaces : K → (p : Packet) {own : Fml} → ValidPacket p → Step K W (‵ (row packet.the-row fullShare (set l i p) b o) ∷ Γ) G (alone b o l i p own Γ) G
     replaces t p valid = step (λ s.
         move t (1 ∷ []) $ drop t $ owned t packet.the-row (Is packet.the-row) (makes packet.the-type packet′.the-plain 𝓤 H A) p (packet-vals p) valid $
         move t (1 ∷ 0 ∷ []) $ elem-put t packet.the-row fullShare l i p (packet-vals p) b o within $ s)
