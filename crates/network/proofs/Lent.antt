@@ -45,7 +45,7 @@ use Rattle.network.proofs.Packet.Laws as packet′
 use Rattle.network.proofs.Air as air
 use Rattle.network.proofs.Air.Laws as air′
 
--- A packet and its machine values, of so many bytes.
+-- A packet's machine values, that they stand for it, and its bytes in memory.
 abbrev pub packet-vals : Packet → List Val
 packet-vals = vals packet.the-type packet′.the-laws
 
@@ -55,7 +55,14 @@ ValidPacket p = Is packet.the-row p (packet-vals p)
 abbrev pub size : ℕ
 size = mem packet.the-row .size
 
--- An air and its machine values.
+-- The packets l in memory, and packet i of them.
+abbrev pub packets-at : ℕ → ℕ → List Packet → Fml
+packets-at b o l = row packet.the-row fullShare l b o
+
+abbrev pub packet-at : List Packet → ℕ → Packet
+packet-at l i = getD l i zeroPacket
+
+-- An air, its machine values, and that they stand for it.
 abbrev pub air-of : List Packet → ℕ → Air
 air-of l count = record { packets = l; count = count }
 
@@ -79,7 +86,7 @@ module _ {M : Type 1} (𝓤 : URA M) (H : Heap 𝓤) (A : Atoms 𝓤) (W : Given
   pub air-typed : (a : Air) → ValidAir a → Holds (hasTy air′.mir (only (air-vals a))) × WT (only (air-vals a))
   air-typed a valid = lawful air.the-type air′.the-laws 𝓤 H A W .typed a (air-vals a) valid .0
 
--- The slice of packets l, and what its holder owns; the machine values are those of a list as long.
+-- A slice of packets l, and what its holder owns when it holds m, as many as l.
 abbrev pub slice-of : ℕ → ℕ → GName → List Packet → RefT (List Packet)
 slice-of b o γ l = record { ptr = (b, o); name = γ; now = l }
 
@@ -101,16 +108,19 @@ module _ {M : Type 1} {𝓤 : URA M} where
   -- The slice of l, open: its packets are m now, and three entries close it again.
   abbrev pub opened : ℕ → ℕ → GName → Lft → Share → List Packet → List Packet → List (Item 𝓤) → List (Item 𝓤)
   opened b o γ κ q l m Γ =
-      ‵ (row packet.the-row fullShare m b o)
+      ‵ (packets-at b o m)
       ∷ ‵ (fobor κ q (Held packet.the-row (length l) b o γ))
       ∷ ‵ (fobs γ (codedHoleys packet.the-row .code (heres packet.the-row l)))
       ∷ ‵ (fauth γ (codedHoleys packet.the-row .code (heres packet.the-row l)))
       ∷ Γ
 
-  -- Packet i of l alone: where it stands, what it owns, and the others.
-  abbrev pub alone : ℕ → ℕ → List Packet → ℕ → Packet → Fml → List (Item 𝓤) → List (Item 𝓤)
-  alone b o l i p own Γ =
-      ‵ (cellAt fullShare (packet.the-row .mir) (packet-vals p) b (element size o i)) ∷ ‵ own ∷ ‵ (others (shares packet.the-row) fullShare l i b o) ∷ Γ
+  -- Place i of the packets l by itself, with packet p in it: the place, what the packet p₀ owns that stood there, and the other places.
+  abbrev pub alone : ℕ → ℕ → List Packet → ℕ → Packet → Packet → List (Item 𝓤) → List (Item 𝓤)
+  alone b o l i p₀ p Γ =
+      ‵ (cellAt fullShare (packet.the-row .mir) (packet-vals p) b (element size o i))
+      ∷ ‵ (packet.the-row .own p₀ (packet-vals p₀))
+      ∷ ‵ (others (shares packet.the-row) fullShare l i b o)
+      ∷ Γ
 
 module _ {M : Type 1} {𝓤 : URA M} {H : Heap 𝓤} {A : Atoms 𝓤} {K : Type 0} {W : Given 𝓤 H A} {Γ : List (Item 𝓤)} where
   module _ {E : Env 𝓤 H} where
@@ -136,19 +146,16 @@ module _ {M : Type 1} {𝓤 : URA M} {H : Heap 𝓤} {A : Atoms 𝓤} {K : Type 
         (ap (λ (n : ℕ). sliceVal (b, o) n ∷ []) (sym e), subst (Room packet.the-row) (sym e) room) $ fjoin t $ s)
 
   module _ {G : Goal 𝓤 H} (b o : ℕ) (l : List Packet) (i : ℕ) (within : i < length l) where
-    -- Packet i is taken out, put back, and replaced by p.
-    pub takes-out : K
-        → (ValidPacket (getD l i zeroPacket) → Seq K W (alone b o l i (getD l i zeroPacket) (packet.the-row .own (getD l i zeroPacket) (packet-vals (getD l i zeroPacket))) Γ) G)
-        → Seq K W (‵ (row packet.the-row fullShare l b o) ∷ Γ) G
+    -- Place i is taken out of the packets, and put back as it was, or with p in it.
+    pub takes-out : K → (ValidPacket (packet-at l i) → Seq K W (alone b o l i (packet-at l i) (packet-at l i) Γ) G) → Seq K W (‵ (packets-at b o l) ∷ Γ) G
     takes-out t =
         elem-out t packet.the-row (Is packet.the-row) (shows 𝓤 H A packet.the-row) packet-vals (tells packet.the-type packet′.the-laws) fullShare l i zeroPacket b o within
 
-    pub puts-back : K
-        → Step K W (‵ (row packet.the-row fullShare l b o) ∷ Γ) G (alone b o l i (getD l i zeroPacket) (packet.the-row .own (getD l i zeroPacket) (packet-vals (getD l i zeroPacket))) Γ) G
-    puts-back t = elem-back t packet.the-row fullShare l i zeroPacket (packet-vals (getD l i zeroPacket)) b o within
+    pub puts-back : K → Step K W (‵ (packets-at b o l) ∷ Γ) G (alone b o l i (packet-at l i) (packet-at l i) Γ) G
+    puts-back t = elem-back t packet.the-row fullShare l i zeroPacket (packet-vals (packet-at l i)) b o within
 
-    pub replaces : K → (p : Packet) {own : Fml} → ValidPacket p → Step K W (‵ (row packet.the-row fullShare (set l i p) b o) ∷ Γ) G (alone b o l i p own Γ) G
-    replaces t p valid = step (λ s.
+    pub replaces : K → (p₀ p : Packet) → ValidPacket p → Step K W (‵ (packets-at b o (set l i p)) ∷ Γ) G (alone b o l i p₀ p Γ) G
+    replaces t p₀ p valid = step (λ s.
         move t (1 ∷ []) $ drop t $ owned t packet.the-row (Is packet.the-row) (makes packet.the-type packet′.the-plain 𝓤 H A) p (packet-vals p) valid $
         move t (1 ∷ 0 ∷ []) $ elem-put t packet.the-row fullShare l i p (packet-vals p) b o within $ s)
 
@@ -205,7 +212,7 @@ module _ {M : Type 1} (𝓤 : URA M) (H : Heap 𝓤) (A : Atoms 𝓤) (W : Given
       use3 W (later (‵ (Arr (mem packet.the-row) (length (a .packets)) .lies l b 0))) (slice-back 𝓤 H A W packet.the-row κ γ l (length (a .packets)) b 0) $ await ! tt $
       rewrite ! 0 (λ (n : ℕ). ‵ (Arr (mem packet.the-row) n .lies l b 0)) long refl $ fsplit ! $ feqL ! (λ e.
       -- [the packets l; the rest]
-      use1 W (‵ (row packet.the-row fullShare l b 0)) (whole-out 𝓤 H A W packet.the-row l b 0) $ feqI ! ℕ _ 128 e $ fjoin ! $
+      use1 W (‵ (packets-at b 0 l)) (whole-out 𝓤 H A W packet.the-row l b 0) $ feqI ! ℕ _ 128 e $ fjoin ! $
       use1 W (‵ (partAt (Array packet.the-row 128) fullShare l b 0)) (array-whole 𝓤 H A W packet.the-row fullShare 128 l b 0) $
       use2 W (‵ (mem air.the-row .lies next b 0)) (array-in l) $ fpick ! (λ vs. fsplit ! $
       -- [the air, at some machine values; what it owns]

@@ -35,7 +35,7 @@ use denote.Triple.Table.{entered}
 use denote.Triple.Walked.{says, needs, Stays, stay-slice, stay-dropped, walkOf, goes-slice, goes-dropped, Walks, ends-at, walked, walk-meets}
 use denote.Exit.{yes}
 use Rattle.network.specs.declared.Packet.{Packet}
-use Rattle.network.proofs.Lent.{packet-vals, ValidPacket, packet-typed, size, slice-of, Slice, local, var, opens, closes, takes-out, replaces, exits-slice}
+use Rattle.network.proofs.Lent.{packet-vals, ValidPacket, packet-typed, size, packet-at, slice-of, Slice, local, var, opens, closes, takes-out, replaces, exits-slice}
 use Rattle.network.proofs.Packet as packet
 use Rattle.network.proofs.Packet.Laws as packet′
 use Rattle.network.proofs.packets.append_to.Key.{name as #append-to}
@@ -81,7 +81,7 @@ module _ {M : Type 1} (𝓤 : URA M) (H : Heap 𝓤) (A : Atoms 𝓤) (W : Given
       -- [packet count; what it owns; the others; three that close the slice; _5; …; _4; …; _3 = p; …; _2; …; _1; …; _0; …]
       -- *_5 = p
       assigns ! (of-opd ! (var ! 10 refl)) (from ! (hop ! (look ! 6 refl) (stop !))) (store-raw ! 0 refl (packet-typed 𝓤 H A W p valid)) $
-      replaces b o l count within ! p valid $ closes b o γ κ q l ! tt next (length-set l count p) room $
+      replaces b o l count within ! (packet-at l count) p valid $ closes b o γ κ q l ! tt next (length-set l count p) room $
       -- [the slice; the token; _5; …; _4; …; _3; …; _2; …; _1; …; _0; …]
       -- return
       assigns ! (of-opd ! (unit-lit !)) (local !) (init ! 12 refl (tt, tt)) $ returns ! (look ! 12 refl) $

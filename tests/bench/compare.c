@@ -1,0 +1,158 @@
+/*
+ * The speed of two builds of the library and the program, one beside the other. Prints the rows of a
+ * table in Markdown.
+ *
+ * compare LIBRARY PROGRAM OTHER_LIBRARY OTHER_PROGRAM SCRIPT: the libraries as shared objects. SCRIPT
+ * is written, for the programs to run.
+ *
+ * Each round times one build and then the other for some milliseconds, since the machine may not be
+ * as fast in the next. A row has the medians of the rounds and of their ratios, and between which the
+ * middle half of the ratios lies. Where the builds come to stand in memory differs from run to run and
+ * counts too: one run is not enough.
+ */
+#define _GNU_SOURCE
+#include "srp.h"
+
+#include <dlfcn.h>
+#include <fcntl.h>
+#include <spawn.h>
+#include <stdio.h>
+#include <stdlib.h>
+#include <string.h>
+#include <sys/wait.h>
+#include <time.h>
+#include <unistd.h>
+
+enum { ROUNDS = 101, CALLS = 100, STATIONS = 16, SEEKERS = 6, EVENTS = 4096 };
+
+typedef uint64_t call_on_packet(uint8_t *memory, size_t length, size_t k);
+
+struct build {
+    const char *program;
+    call_on_packet *deliver, *lose, *duplicate;
+};
+
+static uint8_t network[SRP_LENGTH]; /* what each timed call starts from */
+static const char *script;
+
+static void fail(const char *what) {
+    fprintf(stderr, "compare: %s\n", what);
+    exit(1);
+}
+
+static void *found(void *library, const char *name) {
+    void *symbol = dlsym(library, name);
+    if (!symbol) fail(name);
+    return symbol;
+}
+
+static struct build opened(const char *path, const char *program, void **library) {
+    *library = dlopen(path, RTLD_NOW | RTLD_LOCAL);
+    if (!*library) fail(dlerror());
+    return (struct build){program, (call_on_packet *)found(*library, "srp_deliver"),
+                          (call_on_packet *)found(*library, "srp_lose"), (call_on_packet *)found(*library, "srp_duplicate")};
+}
+
+static double now(void) {
+    struct timespec t;
+    clock_gettime(CLOCK_MONOTONIC, &t);
+    return 1e9 * (double)t.tv_sec + (double)t.tv_nsec;
+}
+
+/* Sixteen stations, every link up, and the requests of some in the air. */
+static void fill_network(void *library) {
+    uint64_t (*open)(uint8_t *, size_t, size_t, uint64_t) = (uint64_t(*)(uint8_t *, size_t, size_t, uint64_t))found(library, "srp_open");
+    uint64_t (*up)(uint8_t *, size_t, size_t, size_t) = (uint64_t(*)(uint8_t *, size_t, size_t, size_t))found(library, "srp_up");
+    uint64_t (*solicit)(uint8_t *, size_t, size_t, size_t) = (uint64_t(*)(uint8_t *, size_t, size_t, size_t))found(library, "srp_solicit");
+    if (SRP_REFUSED(open(network, SRP_LENGTH, STATIONS, 1))) fail("open");
+    for (size_t a = 0; a < STATIONS; a++)
+        for (size_t b = a + 1; b < STATIONS; b++)
+            if (SRP_REFUSED(up(network, SRP_LENGTH, a, b))) fail("up");
+    for (size_t a = 0; a < SEEKERS; a++)
+        if (SRP_REFUSED(solicit(network, SRP_LENGTH, a, STATIONS - 1))) fail("solicit");
+}
+
+/* A script of as many events as may be: links, requests, and packets that arrive, are lost and are doubled. */
+static void write_script(void) {
+    static uint8_t bytes[11 + 3 * EVENTS] = {STATIONS, EVENTS & 255, EVENTS >> 8, 1};
+    uint8_t *kinds = bytes + 11, *operands = bytes + 11 + EVENTS;
+    size_t links = 0;
+    for (size_t a = 0; a < STATIONS; a++)
+        for (size_t b = a + 1; b < STATIONS; b += 3, links++) kinds[links] = 1, operands[2 * links] = (uint8_t)a, operands[2 * links + 1] = (uint8_t)b;
+    uint64_t random = 1;
+    for (size_t k = links; k < EVENTS; k++) {
+        random = random * 6364136223846793005u + 1442695040888963407u;
+        size_t r = random >> 33;
+        if (r % 16 == 0) kinds[k] = 3, operands[2 * k] = (uint8_t)(r / 16 % STATIONS), operands[2 * k + 1] = (uint8_t)(r / 256 % STATIONS);
+        else kinds[k] = (uint8_t)(r % 16 < 10 ? 6 : r % 16 < 13 ? 7 : 8), operands[2 * k] = (uint8_t)(r / 16 % 8);
+    }
+    FILE *file = fopen(script, "wb");
+    if (!file || fwrite(bytes, sizeof bytes, 1, file) != 1 || fclose(file)) fail("the script");
+}
+
+/* Nanoseconds for a call on a copy of the network, the copy included. */
+static double timed_call(call_on_packet *call, size_t k) {
+    static uint8_t memory[SRP_LENGTH];
+    double began = now();
+    for (int i = 0; i < CALLS; i++) {
+        memcpy(memory, network, SRP_LENGTH);
+        if (SRP_REFUSED(call(memory, SRP_LENGTH, k))) fail("a call was turned down");
+    }
+    return (now() - began) / CALLS;
+}
+
+static double broadcast_on(const struct build *b) { return timed_call(b->deliver, 0); }
+static double answered(const struct build *b) { return timed_call(b->deliver, STATIONS - 2); }
+static double first_lost(const struct build *b) { return timed_call(b->lose, 0); }
+static double last_lost(const struct build *b) { return timed_call(b->lose, SEEKERS * (STATIONS - 1) - 1); }
+static double first_doubled(const struct build *b) { return timed_call(b->duplicate, 0); }
+
+/* Nanoseconds for a whole run of the program. */
+static double rehearsed(const struct build *b) {
+    posix_spawn_file_actions_t actions;
+    char *const arguments[] = {(char *)b->program, NULL};
+    pid_t child;
+    int status;
+    posix_spawn_file_actions_init(&actions);
+    posix_spawn_file_actions_addopen(&actions, 0, script, O_RDONLY, 0);
+    posix_spawn_file_actions_addopen(&actions, 1, "/dev/null", O_WRONLY, 0);
+    double began = now();
+    if (posix_spawn(&child, b->program, &actions, NULL, arguments, environ) || waitpid(child, &status, 0) != child || status) fail(b->program);
+    double took = now() - began;
+    posix_spawn_file_actions_destroy(&actions);
+    return took;
+}
+
+static int ascending(const void *a, const void *b) {
+    double x = *(const double *)a, y = *(const double *)b;
+    return (x > y) - (x < y);
+}
+
+static void row(const char *what, double (*timed)(const struct build *), const struct build *this, const struct build *other) {
+    static double here[ROUNDS], there[ROUNDS], ratios[ROUNDS];
+    timed(this), timed(other);
+    for (int i = 0; i < ROUNDS; i++) {
+        here[i] = timed(this), there[i] = timed(other);
+        ratios[i] = here[i] / there[i];
+    }
+    qsort(here, ROUNDS, sizeof *here, ascending);
+    qsort(there, ROUNDS, sizeof *there, ascending);
+    qsort(ratios, ROUNDS, sizeof *ratios, ascending);
+    printf("| %s | %.0f | %.0f | %.2f | %.2f to %.2f |\n", what, here[ROUNDS / 2], there[ROUNDS / 2], ratios[ROUNDS / 2], ratios[ROUNDS / 4], ratios[ROUNDS * 3 / 4]);
+}
+
+int main(int count, char **arguments) {
+    if (count != 6) fail("usage: compare LIBRARY PROGRAM OTHER_LIBRARY OTHER_PROGRAM SCRIPT");
+    void *library, *other_library;
+    struct build this = opened(arguments[1], arguments[2], &library), other = opened(arguments[3], arguments[4], &other_library);
+    script = arguments[5];
+    fill_network(library);
+    write_script();
+    row("`srp_deliver` of a request, broadcast on", broadcast_on, &this, &other);
+    row("`srp_deliver` of a request, answered", answered, &this, &other);
+    row("`srp_lose` of the first of 90 packets", first_lost, &this, &other);
+    row("`srp_lose` of the last", last_lost, &this, &other);
+    row("`srp_duplicate` of the first", first_doubled, &this, &other);
+    row("a rehearsal of 4,096 events", rehearsed, &this, &other);
+    return 0;
+}
