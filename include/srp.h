@@ -45,7 +45,7 @@ extern "C" {
 #define SRP_COUNT(r) ((uint32_t)((r) >> 32))
 
 /* Whether a result is a refusal. Not for srp_new_label and srp_script_start. */
-#define SRP_REFUSED(r) (SRP_ANSWER(r) >= 1 && SRP_ANSWER(r) <= 12)
+#define SRP_REFUSED(r) (SRP_ANSWER(r) - 1u < 12u)
 
 /* The answers: 0, refusals, outcomes. */
 enum srp_answer {

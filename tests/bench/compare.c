@@ -25,10 +25,14 @@
 
 enum { ROUNDS = 101, CALLS = 100, STATIONS = 16, SEEKERS = 6, EVENTS = 4096 };
 
+typedef uint64_t opening(uint8_t *memory, size_t length, size_t n, uint64_t start);
+typedef uint64_t call_on_pair(uint8_t *memory, size_t length, size_t a, size_t b);
 typedef uint64_t call_on_packet(uint8_t *memory, size_t length, size_t k);
 
 struct build {
     const char *program;
+    opening *open;
+    call_on_pair *up, *solicit;
     call_on_packet *deliver, *lose, *duplicate;
 };
 
@@ -46,11 +50,16 @@ static void *found(void *library, const char *name) {
     return symbol;
 }
 
-static struct build opened(const char *path, const char *program, void **library) {
-    *library = dlopen(path, RTLD_NOW | RTLD_LOCAL);
-    if (!*library) fail(dlerror());
-    return (struct build){program, (call_on_packet *)found(*library, "srp_deliver"),
-                          (call_on_packet *)found(*library, "srp_lose"), (call_on_packet *)found(*library, "srp_duplicate")};
+static struct build loaded(const char *path, const char *program) {
+    void *library = dlopen(path, RTLD_NOW | RTLD_LOCAL);
+    if (!library) fail(dlerror());
+    return (struct build){program,
+                          found(library, "srp_open"),
+                          found(library, "srp_up"),
+                          found(library, "srp_solicit"),
+                          found(library, "srp_deliver"),
+                          found(library, "srp_lose"),
+                          found(library, "srp_duplicate")};
 }
 
 static double now(void) {
@@ -60,31 +69,33 @@ static double now(void) {
 }
 
 /* Sixteen stations, every link up, and the requests of some in the air. */
-static void fill_network(void *library) {
-    uint64_t (*open)(uint8_t *, size_t, size_t, uint64_t) = (uint64_t(*)(uint8_t *, size_t, size_t, uint64_t))found(library, "srp_open");
-    uint64_t (*up)(uint8_t *, size_t, size_t, size_t) = (uint64_t(*)(uint8_t *, size_t, size_t, size_t))found(library, "srp_up");
-    uint64_t (*solicit)(uint8_t *, size_t, size_t, size_t) = (uint64_t(*)(uint8_t *, size_t, size_t, size_t))found(library, "srp_solicit");
-    if (SRP_REFUSED(open(network, SRP_LENGTH, STATIONS, 1))) fail("open");
-    for (size_t a = 0; a < STATIONS; a++)
-        for (size_t b = a + 1; b < STATIONS; b++)
-            if (SRP_REFUSED(up(network, SRP_LENGTH, a, b))) fail("up");
-    for (size_t a = 0; a < SEEKERS; a++)
-        if (SRP_REFUSED(solicit(network, SRP_LENGTH, a, STATIONS - 1))) fail("solicit");
+static void fill_network(const struct build *b) {
+    if (SRP_REFUSED(b->open(network, SRP_LENGTH, STATIONS, 1))) fail("open");
+    for (size_t i = 0; i < STATIONS; i++)
+        for (size_t j = i + 1; j < STATIONS; j++)
+            if (SRP_REFUSED(b->up(network, SRP_LENGTH, i, j))) fail("up");
+    for (size_t i = 0; i < SEEKERS; i++)
+        if (SRP_REFUSED(b->solicit(network, SRP_LENGTH, i, STATIONS - 1))) fail("solicit");
+}
+
+static void put_event(uint8_t *bytes, size_t index, size_t kind, size_t a, size_t b) {
+    bytes[11 + index] = (uint8_t)kind;
+    bytes[11 + EVENTS + 2 * index] = (uint8_t)a;
+    bytes[11 + EVENTS + 2 * index + 1] = (uint8_t)b;
 }
 
 /* A script of as many events as may be: links, requests, and packets that arrive, are lost and are doubled. */
 static void write_script(void) {
     static uint8_t bytes[11 + 3 * EVENTS] = {STATIONS, EVENTS & 255, EVENTS >> 8, 1};
-    uint8_t *kinds = bytes + 11, *operands = bytes + 11 + EVENTS;
-    size_t links = 0;
-    for (size_t a = 0; a < STATIONS; a++)
-        for (size_t b = a + 1; b < STATIONS; b += 3, links++) kinds[links] = 1, operands[2 * links] = (uint8_t)a, operands[2 * links + 1] = (uint8_t)b;
     uint64_t random = 1;
-    for (size_t k = links; k < EVENTS; k++) {
+    size_t made = 0;
+    for (size_t a = 0; a < STATIONS; a++)
+        for (size_t b = a + 1; b < STATIONS; b += 3) put_event(bytes, made++, 1, a, b);
+    while (made < EVENTS) {
         random = random * 6364136223846793005u + 1442695040888963407u;
-        size_t r = random >> 33;
-        if (r % 16 == 0) kinds[k] = 3, operands[2 * k] = (uint8_t)(r / 16 % STATIONS), operands[2 * k + 1] = (uint8_t)(r / 256 % STATIONS);
-        else kinds[k] = (uint8_t)(r % 16 < 10 ? 6 : r % 16 < 13 ? 7 : 8), operands[2 * k] = (uint8_t)(r / 16 % 8);
+        size_t choice = random >> 33 & 15, a = random >> 37 & 15, b = random >> 41 & 15;
+        if (choice == 0) put_event(bytes, made++, 3, a, b);
+        else put_event(bytes, made++, choice < 10 ? 6 : choice < 13 ? 7 : 8, a / 2, 0);
     }
     FILE *file = fopen(script, "wb");
     if (!file || fwrite(bytes, sizeof bytes, 1, file) != 1 || fclose(file)) fail("the script");
@@ -143,10 +154,9 @@ static void row(const char *what, double (*timed)(const struct build *), const s
 
 int main(int count, char **arguments) {
     if (count != 6) fail("usage: compare LIBRARY PROGRAM OTHER_LIBRARY OTHER_PROGRAM SCRIPT");
-    void *library, *other_library;
-    struct build this = opened(arguments[1], arguments[2], &library), other = opened(arguments[3], arguments[4], &other_library);
+    struct build this = loaded(arguments[1], arguments[2]), other = loaded(arguments[3], arguments[4]);
     script = arguments[5];
-    fill_network(library);
+    fill_network(&this);
     write_script();
     row("`srp_deliver` of a request, broadcast on", broadcast_on, &this, &other);
     row("`srp_deliver` of a request, answered", answered, &this, &other);

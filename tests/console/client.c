@@ -1669,6 +1669,23 @@ static void test_past_counts(void)
 
 /* --------------------------------------------------------------------------------------------- */
 
+static uint64_t counted(uint64_t r, unsigned *times)
+{
+    (*times)++;
+    return r;
+}
+
+/* Which results are refusals. The argument may be a call: it is evaluated once. */
+static void test_refused(void)
+{
+    for (uint64_t answer = 0; answer < 140; answer++) {
+        unsigned times = 0;
+
+        CHECK_EQ(SRP_REFUSED(counted(answer | (uint64_t)7 << 32, &times)), answer >= 1 && answer <= 12);
+        CHECK_EQ(times, 1);
+    }
+}
+
 int main(int argc, char **argv)
 {
     size_t step = argc > 1 ? strtoul(argv[1], NULL, 10) : 1;
@@ -1677,6 +1694,7 @@ int main(int argc, char **argv)
         fprintf(stderr, "usage: client [STEP]\n");
         return 2;
     }
+    test_refused();
     test_open();
     test_example();
     test_exact_slice();
