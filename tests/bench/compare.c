@@ -7,8 +7,8 @@
  *
  * Each round times one build and then the other for some milliseconds, since the machine may not be
  * as fast in the next. A row has the medians of the rounds and of their ratios, and between which the
- * middle half of the ratios lies. Where the builds come to stand in memory differs from run to run and
- * counts too: one run is not enough.
+ * middle half of the ratios lies. Runs can lie further apart than the rounds of one: one run is not
+ * enough.
  */
 #define _GNU_SOURCE
 #include "srp.h"
