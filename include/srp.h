@@ -13,9 +13,15 @@
  *     use it during the call, nor write to the others.
  * All else is tested: every number and every content of the bytes may be handed in.
  *
- * RESULTS. Every function returns 64 bits. SRP_ANSWER is the low half: 0, a refusal number (1 to 12)
- * or an outcome number (101 to 133). SRP_COUNT is the high half: what the function's comment says,
- * and 0 where the call is turned down. srp_new_label and srp_script_start have results of their own.
+ * RESULTS. Every function returns 64 bits. SRP_ANSWER is the low half: 0, a refusal number (1 to 99,
+ * of which 1 to 12 are in use) or an outcome number (101 to 133). SRP_COUNT is the high half: what the
+ * function's comment says, and 0 where the call is turned down. srp_new_label and srp_script_start have
+ * results of their own.
+ *
+ * STACK. A call uses the caller's stack and allocates nothing. Up to 211,560 bytes were measured
+ * (docs/LAYOUT.md, "Stack"); the library's tests fail where a call needs over 262,144.
+ *
+ * LINKING. The library needs memcpy and memset, and no other function.
  *
  * REFUSALS. Each function's comment lists the numbers that it is turned down with, in the order of
  * its tests. The first that applies is returned; where none applies the call is accepted. A call
@@ -44,8 +50,11 @@ extern "C" {
 #define SRP_ANSWER(r) ((uint32_t)((r) & 0xffffffffu))
 #define SRP_COUNT(r) ((uint32_t)((r) >> 32))
 
-/* Whether a result is a refusal. Not for srp_new_label and srp_script_start. */
-#define SRP_REFUSED(r) (SRP_ANSWER(r) - 1u < 12u)
+/*
+ * Whether a result is a refusal: the answer is not 0 and below 100. Not for srp_new_label and
+ * srp_script_start.
+ */
+#define SRP_REFUSED(r) (SRP_ANSWER(r) - 1u < 99u)
 
 /* The answers: 0, refusals, outcomes. */
 enum srp_answer {
@@ -68,7 +77,7 @@ enum srp_answer {
     SRP_REQUEST_ANSWERED = 102,      /* a request: a reply was sent */
     SRP_REQUEST_SENT_ON = 103,       /* a request: broadcast on */
     SRP_REQUEST_NOT_ANSWERED = 104,  /* a request: no reply, the sequence number cannot rise */
-    SRP_REPLY_UNASKED = 111,         /* a reply: it matches no request, nothing done */
+    SRP_REPLY_UNASKED = 111,         /* a reply: at its destination, or matching no request here; nothing done */
     SRP_OWN_NOT_ABOVE = 112,         /* the own label is not above the advertised one */
     SRP_CACHED_NOT_ABOVE = 113,      /* the cached label is not above the advertised one */
     SRP_DOES_NOT_FIT = 114,          /* the new label's denominator is over 4,294,967,295 */
@@ -266,8 +275,8 @@ uint64_t srp_read_script(const uint8_t *script, size_t script_length, uint8_t *k
                          uint8_t *operands, size_t operands_length);
 
 /*
- * The start that stands in a script. The whole result is the number: no answer, no count. It is 0
- * for fewer than 11 bytes. A script that srp_read_script accepts has a start other than 0.
+ * The start of a script that reads, which is never 0. It is 0 for every other script: one that
+ * srp_read_script turns down with 9, 10, 1 or 11. The whole result is the number: no answer, no count.
  */
 uint64_t srp_script_start(const uint8_t *script, size_t length);
 

@@ -1,3 +1,4 @@
-pub mod Flags
+pub mod Booleans
 pub mod Lists
 pub mod Loops
+pub mod Results

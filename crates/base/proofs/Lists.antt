@@ -12,7 +12,7 @@ use native.Mathlib.Omega.{arith}
 use borrow.Author.Tests.{eqb-true, eqb-false, eq-eqb, ne-eqb, not-true}
 use Rattle.base.specs.Choice.{if_then_else_}
 use Rattle.base.specs.Lists.{allBelow, below, allIn, someIn, keep, isEmpty, distinct}
-use Rattle.base.proofs.Flags.{clash, both, neither, passes, negates, iff, choose, cases, Against, less, equal, more, against}
+use Rattle.base.proofs.Booleans.{clash, both, neither, passes, negates, iff, choose, cases, Trichotomy, less, equal, more, trichotomy}
 
 -- Every number below n passes.
 pub all-below : (n : ℕ) (f : ℕ → Bool) → ((i : ℕ) → i < n → f i ≡ true) → allBelow n f ≡ true
@@ -23,9 +23,9 @@ all-below (suc n) f h = passes (all-below n f (λ i l. h i (omega arith))) (h n 
 pub all-below-at : (n : ℕ) (f : ℕ → Bool) → allBelow n f ≡ true → (i : ℕ) → i < n → f i ≡ true
 unfolding allBelow
 all-below-at zero f e i h = absurd (omega arith)
-all-below-at (suc n) f e i h = go (against i n) (λ l. all-below-at n f (both (allBelow n f) (f n) e .0) i l)
+all-below-at (suc n) f e i h = go (trichotomy i n) (λ l. all-below-at n f (both (allBelow n f) (f n) e .0) i l)
   where
-    go : Against i n → (i < n → f i ≡ true) → f i ≡ true
+    go : Trichotomy i n → (i < n → f i ≡ true) → f i ≡ true
     go (less l) ih = ih l
     go (equal q) ih = ap f q ∙ both (allBelow n f) (f n) e .1
     go (more l) ih = absurd (omega arith)

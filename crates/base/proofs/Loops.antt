@@ -12,7 +12,7 @@ use native.Mathlib.Omega.{arith}
 use borrow.Author.Tests.{ltb-true, ltb-false, eqb-true, eqb-false, lt-leb, leb-false, not-true}
 use Rattle.base.specs.Choice.{if_then_else_}
 use Rattle.base.specs.Lists.{allBelow, below, allIn, someIn, keep, isEmpty, tabulate, indexOf, distinct, removed}
-use Rattle.base.proofs.Flags.{clash, passes, iff, choose, Against, less, equal, more, against}
+use Rattle.base.proofs.Booleans.{clash, passes, iff, choose, Trichotomy, less, equal, more, trichotomy}
 use Rattle.base.proofs.Lists.{all-below, all-below-at, empty-length, distinct-more}
 
 -- A loop that ends early at the first number below n that fails: what it knows before its first turn, how it goes on, how it ends early,
@@ -91,9 +91,9 @@ module _ (f : ℕ → Bool) where
   pub below-grows : (n c : ℕ) → n ≤ c → length (below n f) ≤ length (below c f)
   unfolding below
   below-grows n zero h = let e : n ≡ 0 = omega arith in rw e (omega arith)
-  below-grows n (suc c) h = go (against n (suc c)) (λ l. below-grows n c (omega arith))
+  below-grows n (suc c) h = go (trichotomy n (suc c)) (λ l. below-grows n c (omega arith))
     where
-      go : Against n (suc c) → (n < suc c → length (below n f) ≤ length (below c f)) → length (below n f) ≤ length (below (suc c) f)
+      go : Trichotomy n (suc c) → (n < suc c → length (below n f) ≤ length (below c f)) → length (below n f) ≤ length (below (suc c) f)
       go (less l) ih = omega (arith, ih l, length-append (below c f) (if f c then c ∷ [] else []))
       go (equal q) ih = rw q (omega arith)
       go (more l) ih = absurd (omega arith)
@@ -126,9 +126,9 @@ module _ {A : Type 0} where
   pub tabulate-at : (c : ℕ) (f : ℕ → A) (k : ℕ) (d : A) → k < c → getD (tabulate c f) k d ≡ f k
   unfolding tabulate
   tabulate-at zero f k d h = absurd (omega arith)
-  tabulate-at (suc c) f k d h = go (against k c) (λ l. tabulate-at c f k d l)
+  tabulate-at (suc c) f k d h = go (trichotomy k c) (λ l. tabulate-at c f k d l)
     where
-      go : Against k c → (k < c → getD (tabulate c f) k d ≡ f k) → getD (tabulate c f ++ (f c ∷ [])) k d ≡ f k
+      go : Trichotomy k c → (k < c → getD (tabulate c f) k d ≡ f k) → getD (tabulate c f ++ (f c ∷ [])) k d ≡ f k
       go (less l) ih = List·getD-append (tabulate c f) (f c ∷ []) d k (omega (arith, tabulate-length c f)) ∙ ih l
       go (equal q) ih = rw q (getD-at (tabulate c f) (f c) [] d c (tabulate-length c f))
       go (more l) ih = absurd (omega arith)

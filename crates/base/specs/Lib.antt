@@ -1,2 +1,4 @@
 pub mod Choice
+pub mod Numbers
 pub mod Lists
+pub mod Results

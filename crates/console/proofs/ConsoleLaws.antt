@@ -6,12 +6,13 @@ use mathlib.Core.List.{List, _++_}
 use lib.ListN.{length, drop, length-append}
 use native.Mathlib.Omega.{arith}
 use borrow.Author.Tests.{lt-ltb, ltb-false, le-ltb, not-false}
-use Rattle.base.proofs.Flags.{neither}
+use Rattle.base.proofs.Booleans.{neither}
+use Rattle.base.specs.Results.{Result, refused, accepted, refuse_when_otherwise_}
 use Rattle.codec.specs.Bytes.{over}
 use Rattle.model.specs.Memory.{Network, memoryInRange}
 use Rattle.model.specs.Calls.{Call, Open, Up, Down, Solicit, GiveUp, Expire, Deliver, Lose, Duplicate}
-use Rattle.model.specs.Calls.{Effect, Result, refused, accepted, turnsDown, refuse_when_otherwise_, step, traced, trace}
-use Rattle.model.proofs.Range.{Kept, in-range-kept}
+use Rattle.model.specs.Calls.{Effect, turnsDown, step, traced, trace}
+use Rattle.model.proofs.Range.{Invariant, in-range-invariant}
 use Rattle.model.proofs.Answers.{refused-tells, accepted-tells}
 use Rattle.network.specs.declared.Memory.{Memory}
 use Rattle.network.specs.View.{view}
@@ -76,8 +77,8 @@ module _ (c : Call) (bytes : List ℕ) where
 -- What is written is memory, and reads back.
 module _ (net : Network) (fits : NetworkFits net) (ranged : memoryInRange net ≡ true) (bytes bytes′ : List ℕ)
     (long : layoutLength ≤ length bytes) (e : bytes′ ≡ over (networkBytes net) bytes) where
-  kept : Kept ⊥ net
-  kept = in-range-kept net ranged (record {
+  inv : Invariant ⊥ net
+  inv = in-range-invariant net ranged (record {
     labels-length = fits .labels .long;
     rows-length = fits .rows .long;
     records-length = fits .records .long;
@@ -94,7 +95,7 @@ module _ (net : Network) (fits : NetworkFits net) (ranged : memoryInRange net �
   pub written-stores : Stores bytes′ net
   unfolding notMemory tooShort
   written-stores = record {
-    readable = rw (le-ltb (length bytes′) layoutLength (omega (arith, ap length split, length-append (networkBytes net) rest, network-wide net fits)), meaning-back net fits bytes′ rest split (kept .good .high) (kept .room));
+    readable = rw (le-ltb (length bytes′) layoutLength (omega (arith, ap length split, length-append (networkBytes net) rest, network-wide net fits)), meaning-back net fits bytes′ rest split (inv .formed .high) (kept .room));
     network = network-back net fits bytes′ rest split;
     in-range = ranged;
   }
@@ -110,7 +111,7 @@ module _ (c : Call) (bytes : List ℕ) (d : Done) (r : ℕ) (bytes′ : List ℕ
   unfolding Ends Called
   ends-finished h long memory same called f = rw (calling-step c bytes h, ← same) (go (step c (view memory)) refl called)
     where
-      go : (z : Result) → step c (view memory) ≡ z → Called memory z d → Ends bytes z r bytes′
+      go : (z : Result Effect) → step c (view memory) ≡ z → Called memory z d → Ends bytes z r bytes′
       go (refused number) e k =
           let answer : d .answer ≡ number = ap (λ (x : Done). x .answer) k in
           let sent : d .sent ≡ 0 = ap (λ (x : Done). x .sent) k in

@@ -5,7 +5,7 @@ use mathlib.Core.Bool.{Bool, true, false, not, _&&_}
 use native.Mathlib.Omega.{arith}
 use borrow.Author.Tests.{ne-eqb}
 use Rattle.base.specs.Choice.{if_then_else_}
-use Rattle.base.proofs.Flags.{both}
+use Rattle.base.proofs.Booleans.{both}
 use Rattle.label.specs.declared.Label.{Label}
 use Rattle.label.specs.Label.{inRange, took, gave, newLabel, newLabelCall}
 use Rattle.label.proofs.Range.{InRange, is-unassigned, is-assigned, range-cases}

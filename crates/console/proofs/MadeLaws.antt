@@ -4,8 +4,9 @@ use mathlib.Core.Path.{_≡_, refl, sym, ap, subst, _∙_}
 use mathlib.Core.Bool.{Bool, true, false}
 use mathlib.Core.List.{List, [], _∷_}
 use native.Mathlib.Omega.{arith}
+use Rattle.base.specs.Results.{Result, refused, accepted}
 use Rattle.model.specs.Memory.{Network, fresh}
-use Rattle.model.specs.Calls.{Call, Open, Result, refused, accepted, after, notOpening, step, run}
+use Rattle.model.specs.Calls.{Call, Open, after, notOpening, step, run}
 use Rattle.model.specs.Walks.{Reached}
 use Rattle.model.proofs.Refusals.{open-1, open-accepted, fresh-reached}
 use Rattle.layout.specs.Stored.{storedNetwork}
@@ -14,7 +15,7 @@ use Rattle.console.specs.Made.{History, Made}
 use Rattle.console.proofs.ConsoleLaws.{memory-readable, calling-1, calling-step}
 
 -- After a call, turned down or not, the bytes hold the network that the model's call leaves.
-ends-stores : (bytes : List ℕ) (net : Network) → Stores bytes net → (z : Result) (r : ℕ) (next : List ℕ) → Ends bytes z r next → Stores next (after net z)
+ends-stores : (bytes : List ℕ) (net : Network) → Stores bytes net → (z : Result Effect) (r : ℕ) (next : List ℕ) → Ends bytes z r next → Stores next (after net z)
 unfolding Ends after
 ends-stores bytes net s (refused number) r next e = subst (λ b. Stores b net) (sym (e .1)) s
 ends-stores bytes net s (accepted x) r next e = e .2

@@ -8,14 +8,14 @@ use lib.Seq.{sets}
 use lib.Dec.{leb}
 use borrow.Author.Tests.{lt-ltb, le-ltb, leb-true}
 use Rattle.base.specs.Lists.{allBelow}
-use Rattle.base.proofs.Flags.{both, neither}
+use Rattle.base.proofs.Booleans.{both, neither}
+use Rattle.base.specs.Results.{Result, refused, accepted}
 use Rattle.codec.specs.Bytes.{byteAt}
 use Rattle.codec.proofs.ByteLaws.{sets-over}
 use Rattle.model.specs.Memory.{Network, airLimit, memoryInRange}
 use Rattle.layout.specs.Places.{layoutLength, airAt}
 use Rattle.layout.specs.Stored.{storedNetwork}
 use Rattle.layout.specs.Meaning.{stationHasMeaning, hasMeaning}
-use Rattle.script.specs.Script.{Ended, refused, done}
 use Rattle.console.specs.Results.{packed, telling, Puts}
 use Rattle.console.specs.Console.{notMemory}
 use Rattle.console.specs.Showing.{outOfRange, showing, fitted}
@@ -38,7 +38,7 @@ known bytes h =
     let sizes = both (leb n 16) (leb count airLimit) (both (leb n 16 && leb count airLimit) stations (parts .0) .0) in
     record { long = memory-long bytes memory; few = leb-true n 16 (sizes .0); room = leb-true count airLimit (sizes .1) }
 
-module _ {A : Type 0} (bytes : List ℕ) (show : Network → Ended A) where
+module _ {A : Type 0} (bytes : List ℕ) (show : Network → Result A) where
   pub showing-1 : outOfRange bytes ≡ true → showing bytes show ≡ refused 1
   unfolding showing
   showing-1 h = rw h
@@ -48,7 +48,7 @@ module _ {A : Type 0} (bytes : List ℕ) (show : Network → Ended A) where
   showing-net h = rw h
 
 -- A number told.
-module _ (bytes : List ℕ) (show : Network → Ended ℕ) where
+module _ (bytes : List ℕ) (show : Network → Result ℕ) where
   pub tells-1 : outOfRange bytes ≡ true → 1 ≡ telling (showing bytes show)
   unfolding telling
   tells-1 h = rw (showing-1 bytes show h)
@@ -57,12 +57,12 @@ module _ (bytes : List ℕ) (show : Network → Ended ℕ) where
   unfolding telling
   tells-refused number h e = rw (showing-net bytes show h, e)
 
-  pub tells-value : (value r : ℕ) → outOfRange bytes ≡ false → show (storedNetwork bytes) ≡ done value → r ≡ packed 0 value → r ≡ telling (showing bytes show)
+  pub tells-value : (value r : ℕ) → outOfRange bytes ≡ false → show (storedNetwork bytes) ≡ accepted value → r ≡ packed 0 value → r ≡ telling (showing bytes show)
   unfolding telling
   tells-value value r h e q = q ∙ rw (showing-net bytes show h, e)
 
 -- Bytes put into a lent array.
-module _ (bytes : List ℕ) (show : Network → Ended (List ℕ)) (out : List ℕ) where
+module _ (bytes : List ℕ) (show : Network → Result (List ℕ)) (out : List ℕ) where
   pub puts-1 : outOfRange bytes ≡ true → Puts (fitted (length out) (showing bytes show)) out 1 out
   unfolding Puts fitted
   puts-1 h = rw (showing-1 bytes show h) (refl, refl)
@@ -72,7 +72,7 @@ module _ (bytes : List ℕ) (show : Network → Ended (List ℕ)) (out : List �
   unfolding Puts fitted
   puts-refused number h e = rw (showing-net bytes show h, e) (refl, refl)
 
-  module _ (shown : List ℕ) (h : outOfRange bytes ≡ false) (e : show (storedNetwork bytes) ≡ done shown) where
+  module _ (shown : List ℕ) (h : outOfRange bytes ≡ false) (e : show (storedNetwork bytes) ≡ accepted shown) where
     pub puts-12 : length out < length shown → Puts (fitted (length out) (showing bytes show)) out 12 out
     unfolding Puts fitted
     puts-12 l = rw (showing-net bytes show h, e, lt-ltb (length out) (length shown) l) (refl, refl)

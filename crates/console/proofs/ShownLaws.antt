@@ -7,7 +7,8 @@ use lib.ListN.{length, length-append}
 use lib.Dec.{leb, eqb}
 use native.Mathlib.Omega.{arith}
 use borrow.Author.Tests.{leb-false}
-use Rattle.base.proofs.Flags.{neither}
+use Rattle.base.proofs.Booleans.{neither}
+use Rattle.base.specs.Results.{refused, accepted}
 use Rattle.codec.specs.Bytes.{byteAt, numberAt}
 use Rattle.codec.proofs.ByteLaws.{little-length}
 use Rattle.model.specs.Memory.{place, pairPlace, linkIn}
@@ -17,7 +18,6 @@ use Rattle.layout.specs.Places.{numbersAt, soughtAt, activeAt, linksAt, labelsA
 use Rattle.layout.specs.Stored.{storedFlag, storedLabel, storedRow, storedRecord, storedPacket, storedMemory, storedNetwork}
 use Rattle.layout.specs.Written.{flag, labelBytes, rowBytes, recordBytes, packetBytes}
 use Rattle.layout.proofs.StoredLaws.{label-stored, row-stored, record-stored, number-stored, sought-stored, active-stored, link-stored, count-stored, packet-stored}
-use Rattle.script.specs.Script.{refused, done}
 use Rattle.console.specs.Showing.{showSize, showAir, showLink, showLabel, showRow, showRecord, stationBytes, showStation, showPacket}
 use Rattle.console.proofs.ShowLaws.{Known}
 
@@ -54,11 +54,11 @@ module _ (bytes : List ℕ) (k : Known bytes) where
 
 -- What is shown.
 module _ (bytes : List ℕ) where
-  pub show-size : showSize (storedNetwork bytes) ≡ done (byteAt bytes 0)
+  pub show-size : showSize (storedNetwork bytes) ≡ accepted (byteAt bytes 0)
   unfolding showSize storedNetwork storedMemory view
   show-size = refl
 
-  pub show-air : showAir (storedNetwork bytes) ≡ done (byteAt bytes airAt)
+  pub show-air : showAir (storedNetwork bytes) ≡ accepted (byteAt bytes airAt)
   unfolding showAir
   show-air = rw (count-stored bytes)
 
@@ -89,22 +89,22 @@ module _ (bytes : List ℕ) (a b : ℕ) where
   show-record-2 h = rw (not-pair true h)
 
   module _ (k : Known bytes) (h : noStations bytes a b ≡ false) where
-    pub show-label : showLabel a b (storedNetwork bytes) ≡ done (labelBytes (storedLabel bytes (labelsAt + 16 * place a b)))
+    pub show-label : showLabel a b (storedNetwork bytes) ≡ accepted (labelBytes (storedLabel bytes (labelsAt + 16 * place a b)))
     unfolding showLabel
     show-label = rw (not-both false h, label-stored bytes (place a b) (omega (arith, both-below bytes k a b h)))
 
-    pub show-row : showRow a b (storedNetwork bytes) ≡ done (rowBytes (rowOf (storedRow bytes (rowsAt + 69 * place a b))))
+    pub show-row : showRow a b (storedNetwork bytes) ≡ accepted (rowBytes (rowOf (storedRow bytes (rowsAt + 69 * place a b))))
     unfolding showRow
     show-row = rw (not-both false h, row-stored bytes (place a b) (omega (arith, both-below bytes k a b h)))
 
   module _ (k : Known bytes) (h : noPair bytes a b ≡ false) where
-    pub show-link : showLink a b (storedNetwork bytes) ≡ done (flag (storedFlag bytes (linksAt + pairPlace a b)))
+    pub show-link : showLink a b (storedNetwork bytes) ≡ accepted (flag (storedFlag bytes (linksAt + pairPlace a b)))
     unfolding showLink linkIn
     show-link =
         let other = neither (noStations bytes a b) (eqb a b) h .1 in
         rw (not-pair false h, other, link-stored bytes (pairPlace a b) (omega (arith, pair-below bytes k a b h)))
 
-    pub show-record : showRecord a b (storedNetwork bytes) ≡ done (recordBytes (recordOf (storedRecord bytes (recordsAt + 23 * place a b))))
+    pub show-record : showRecord a b (storedNetwork bytes) ≡ accepted (recordBytes (recordOf (storedRecord bytes (recordsAt + 23 * place a b))))
     unfolding showRecord
     show-record = rw (not-pair false h, record-stored bytes (place a b) (omega (arith, pair-below bytes k a b h)))
 
@@ -118,7 +118,7 @@ module _ (bytes : List ℕ) (a : ℕ) where
   show-station-2 h = rw (not-station true h)
 
   pub show-station : Known bytes → noStation bytes a ≡ false
-      → showStation a (storedNetwork bytes) ≡ done (stationBytes (numberAt 4 bytes (numbersAt + 4 * a)) (byteAt bytes (soughtAt + a)) (storedFlag bytes (activeAt + a)))
+      → showStation a (storedNetwork bytes) ≡ accepted (stationBytes (numberAt 4 bytes (numbersAt + 4 * a)) (byteAt bytes (soughtAt + a)) (storedFlag bytes (activeAt + a)))
   unfolding showStation
   show-station k h =
       let m = station-below bytes k a h in
@@ -133,7 +133,7 @@ module _ (bytes : List ℕ) (a : ℕ) where
   show-packet-6 h = rw (not-packet true h)
 
   pub show-packet : Known bytes → leb (byteAt bytes airAt) a ≡ false
-      → showPacket a (storedNetwork bytes) ≡ done (packetBytes (packetOf (storedPacket bytes (packetsAt + 28 * a))))
+      → showPacket a (storedNetwork bytes) ≡ accepted (packetBytes (packetOf (storedPacket bytes (packetsAt + 28 * a))))
   unfolding showPacket
   show-packet k h =
       let m : a < byteAt bytes airAt = leb-false (byteAt bytes airAt) a h in

@@ -6,10 +6,11 @@ use mathlib.Core.List.{List}
 use lib.ListN.{length}
 use lib.Dec.{ltb}
 use Rattle.base.specs.Choice.{if_then_else_}
+use Rattle.base.specs.Results.{Result, refused, accepted, refuse_when_otherwise_}
 use Rattle.codec.specs.Bytes.{over}
 use Rattle.model.specs.Memory.{Network, memoryInRange}
 use Rattle.model.specs.Calls.{Call, Open, Up, Down, Solicit, GiveUp, Expire, Deliver, Lose, Duplicate}
-use Rattle.model.specs.Calls.{Result, refused, accepted, refuse_when_otherwise_, step, Traced, traced, trace}
+use Rattle.model.specs.Calls.{step, Traced, traced, trace}
 use Rattle.layout.specs.Places.{layoutLength}
 use Rattle.layout.specs.Stored.{storedNetwork}
 use Rattle.layout.specs.Written.{networkBytes}
@@ -36,7 +37,7 @@ unreadable (Lose k) bytes = notMemory bytes
 unreadable (Duplicate k) bytes = notMemory bytes
 
 -- A call on the network that stands in the bytes.
-unfoldable pub calling : Call → List ℕ → Result
+unfoldable pub calling : Call → List ℕ → Result Effect
 calling c bytes =
     refuse 1 when unreadable c bytes otherwise
     step c (storedNetwork bytes)
@@ -49,7 +50,7 @@ pub record Stores (bytes : List ℕ) (net : Network) : Type 0 where
 
 -- A call gave r and left the bytes so. Turned down, every byte is as it was. Accepted, the bytes are those of the network after the step
 -- (Written.antt: zeros in the free places), the bytes past the layout are kept, and they read back as this network.
-unfoldable pub Ends : (bytes : List ℕ) → Result → (r : ℕ) → (bytes′ : List ℕ) → Type 0
+unfoldable pub Ends : (bytes : List ℕ) → Result Effect → (r : ℕ) → (bytes′ : List ℕ) → Type 0
 Ends bytes (refused number) r bytes′ = (r ≡ packed number 0) × (bytes′ ≡ bytes)
 Ends bytes (accepted e) r bytes′ =
     (r ≡ packed (e .answer) (e .sent)) × (bytes′ ≡ over (networkBytes (e .net)) bytes) × Stores bytes′ (e .net)

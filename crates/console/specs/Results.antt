@@ -5,9 +5,10 @@ use mathlib.Core.List.{List}
 use lib.ListN.{length}
 use lib.Dec.{eqb}
 use Rattle.base.specs.Choice.{if_then_else_}
+use Rattle.base.specs.Results.{Result, refused, accepted}
 use Rattle.label.specs.Label.{label, Outcome, took, gave}
 use Rattle.codec.specs.Bytes.{over}
-use Rattle.script.specs.Script.{Script, Ended, refused, done}
+use Rattle.script.specs.Script.{Script}
 
 abbrev pub packed : (answer count : ℕ) → ℕ
 packed answer count = answer + 4_294_967_296 * count
@@ -19,19 +20,19 @@ abbrev pub countOf : ℕ → ℕ
 countOf r = r / 4_294_967_296
 
 -- A number told, or the number of the refusal.
-unfoldable pub telling : Ended ℕ → ℕ
+unfoldable pub telling : Result ℕ → ℕ
 telling (refused number) = packed number 0
-telling (done value) = packed 0 value
+telling (accepted value) = packed 0 value
 
 -- Bytes put at the start of a lent array: the result tells how many, and the places past them are kept. Turned down, the array is as it was.
-unfoldable pub Puts : Ended (List ℕ) → (out : List ℕ) → (r : ℕ) → (out′ : List ℕ) → Type 0
+unfoldable pub Puts : Result (List ℕ) → (out : List ℕ) → (r : ℕ) → (out′ : List ℕ) → Type 0
 Puts (refused number) out r out′ = (r ≡ packed number 0) × (out′ ≡ out)
-Puts (done bytes) out r out′ = (r ≡ packed 0 (length bytes)) × (out′ ≡ over bytes out)
+Puts (accepted bytes) out r out′ = (r ≡ packed 0 (length bytes)) × (out′ ≡ over bytes out)
 
 -- A script read into two lent arrays: the count is E + 65,536 · n.
-unfoldable pub ReadsScript : Ended Script → (kinds operands : List ℕ) → (r : ℕ) → (kinds′ operands′ : List ℕ) → Type 0
+unfoldable pub ReadsScript : Result Script → (kinds operands : List ℕ) → (r : ℕ) → (kinds′ operands′ : List ℕ) → Type 0
 ReadsScript (refused number) kinds operands r kinds′ operands′ = (r ≡ packed number 0) × (kinds′ ≡ kinds) × (operands′ ≡ operands)
-ReadsScript (done s) kinds operands r kinds′ operands′ =
+ReadsScript (accepted s) kinds operands r kinds′ operands′ =
     (r ≡ packed 0 (length (s .kinds) + 65_536 * s .n)) × (kinds′ ≡ over (s .kinds) kinds) × (operands′ ≡ over (s .operands) operands)
 
 -- What New label gives: a count of 0 and 01's number, or the label that is taken. Its denominator is the count, its numerator the lower half,

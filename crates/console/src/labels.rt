@@ -4,8 +4,8 @@ ghost use Rattle.label.specs.Label.{label, newLabelCall};
 ghost use Rattle.console.specs.Results.{outcomeIn};
 use crate::packed;
 use label::NewLabel;
+use label::label_of;
 use label::new_label;
-use network::places::label_of;
 
 // New label from the own, the cached and the advertised label.
 #[no_mangle]

@@ -1,25 +1,44 @@
 -- New label by its cases, and that the label it takes maintains order.
 use Prim.Native.Nat.{ℕ, _+_, _*_, _<_, _≤_}
-use mathlib.Core.Path.{_≡_, refl, sym, ap, _∙_}
+use mathlib.Core.Path.{_≡_, refl, sym, _∙_}
 use mathlib.Core.Logic.{_⊎_, inl, inr}
 use mathlib.Core.Bool.{Bool, true, false}
 use native.Mathlib.Omega.{arith}
 use lib.Dec.{ltb}
 use borrow.Author.Tests.{lt-ltb, le-ltb, eq-eqb, ltb-true, ltb-false}
-use Rattle.base.proofs.Flags.{clash}
+use Rattle.base.specs.Numbers.{maxU32}
+use Rattle.base.proofs.Booleans.{clash}
 use Rattle.label.specs.declared.Label.{Label}
 use Rattle.label.specs.Label.{label, inRange, above, _≻_, _⪰_, Outcome, took, gave, fitting, next, split, newLabel, newLabelCall, MaintainsOrder}
 use Rattle.label.proofs.Range.{assigned-in-range, range-cases, InRange, is-unassigned, is-assigned, range-assigned}
 use Rattle.label.proofs.Order.{above-lower, above-higher, Ordered, by-number, by-fraction, ≻-ordered, ordered-≻, ≻-number, ≻-irreflexive, ≻-asymmetric, ⪰-≻-transitive}
 
 -- A denominator that fits, and one that doesn't.
-pub fitting-fits : (s m d : ℕ) → d ≤ 4294967295 → fitting s m d ≡ took (label s m d)
+pub fitting-fits : (s m d : ℕ) → d ≤ maxU32 → fitting s m d ≡ took (label s m d)
 unfolding fitting
-fitting-fits s m d h = simp (le-ltb 4294967295 d h)
+fitting-fits s m d h = simp (le-ltb maxU32 d h)
 
-pub fitting-over : (s m d : ℕ) → 4294967295 < d → fitting s m d ≡ gave 114
+pub fitting-over : (s m d : ℕ) → maxU32 < d → fitting s m d ≡ gave 114
 unfolding fitting
 fitting-over s m d h = simp (lt-ltb _ _ h)
+
+-- What is given as a number is not taken.
+gave-none : {A : Type 0} {o : Outcome} {g : Label} {n : ℕ} → o ≡ gave n → o ≡ took g → A
+gave-none h k = let z : _≡_ {A = ℕ} 0 1 = cc in absurd (omega arith)
+
+-- What fits is the label itself.
+fitting-took : (s m d : ℕ) (g : Label) → fitting s m d ≡ took g → g ≡ label s m d
+fitting-took s m d g h = go (ltb maxU32 d) refl
+  where
+    go : (t : Bool) → ltb maxU32 d ≡ t → g ≡ label s m d
+    go true e = gave-none (fitting-over s m d (ltb-true _ _ e)) h
+    go false e = cc (fitting-fits s m d (ltb-false _ _ e))
+
+-- How New label takes the label g: as the next one, as the split, or as the own label, which is kept.
+pub data Taken (a c v g : Label) : Type 0 where
+  by-next : a .s .0 < v .s .0 → c .s .0 < v .s .0 → next v ≡ took g → Taken a c v g
+  by-split : c ≻ v → c .s .0 ≡ v .s .0 → (a .s .0 < v .s .0) ⊎ (a ⪰ c) → split c v ≡ took g → Taken a c v g
+  own-kept : g ≡ a → c ≻ a → a ≻ v → a .s .0 ≡ v .s .0 → Taken a c v g
 
 -- New label, by its cases.
 module _ (a c v : Label) where
@@ -48,6 +67,23 @@ module _ (a c v : Label) where
     unfolding newLabel
     new-split la h = simp (ha, hc, le-ltb _ _ la, h)
 
+    -- Where the own and the cached label are above the advertised one.
+    taken-above : {g : Label} → newLabel a c v ≡ took g → Ordered _<_ a v → Ordered _<_ c v → (t : Bool) → above c a ≡ t → Taken a c v g
+    taken-above h (by-number l) (by-number n) t k = by-next l n (sym (new-next l n) ∙ h)
+    taken-above h (by-number l) (by-fraction f _) t k = by-split hc f (inl l) (sym (new-split-cached l (omega arith)) ∙ h)
+    taken-above h (by-fraction e _) o true k = own-kept (cc (new-own (omega arith) k)) k ha e
+    taken-above h (by-fraction e _) (by-number l) false k = clash (above-lower c a (omega arith)) k
+    taken-above h (by-fraction e _) (by-fraction f _) false k = by-split hc f (inr k) (sym (new-split (omega arith) k) ∙ h)
+
+  -- A label that New label takes is taken in one of the three ways.
+  pub taken : {g : Label} → newLabel a c v ≡ took g → Taken a c v g
+  taken {g} h = go (above a v) refl (above c v) refl
+    where
+      go : (t : Bool) → above a v ≡ t → (u : Bool) → above c v ≡ u → Taken a c v g
+      go false ha u hc = gave-none (new-112 ha) h
+      go true ha false hc = gave-none (new-113 ha hc) h
+      go true ha true hc = taken-above ha hc h (≻-ordered a v ha) (≻-ordered c v hc) (above c a) refl
+
   -- The call, by its cases.
   pub call-own-out : inRange a ≡ false → newLabelCall a c v ≡ gave 1
   unfolding newLabelCall
@@ -64,18 +100,6 @@ module _ (a c v : Label) where
   pub call-in-range : inRange a ≡ true → inRange c ≡ true → inRange v ≡ true → newLabelCall a c v ≡ newLabel a c v
   unfolding newLabelCall
   call-in-range ha hc hv = simp (ha, hc, hv)
-
--- What is given as a number is not taken.
-gave-none : {A : Type 0} {o : Outcome} {g : Label} {n : ℕ} → o ≡ gave n → o ≡ took g → A
-gave-none h k = let z : _≡_ {A = ℕ} 0 1 = cc in absurd (omega arith)
-
--- What fits is the label itself.
-fitting-took : (s m d : ℕ) (g : Label) → fitting s m d ≡ took g → g ≡ label s m d
-fitting-took s m d g h = go (ltb 4294967295 d) refl
-  where
-    go : (t : Bool) → ltb 4294967295 d ≡ t → g ≡ label s m d
-    go true e = gave-none (fitting-over s m d (ltb-true _ _ e)) h
-    go false e = let k : fitting s m d ≡ took (label s m d) = fitting-fits s m d (ltb-false _ _ e) in cc
 
 module _ (a c v g : Label) (ra : inRange a ≡ true) (rc : inRange c ≡ true) (rv : inRange v ≡ true) where
   -- (v, (p+1)/(q+1)) maintains order where it is given.
@@ -128,55 +152,19 @@ module _ (a c v g : Label) (ra : inRange a ≡ true) (rc : inRange c ≡ true) (
 
   -- The label that New label takes maintains order.
   pub new-label-maintains : newLabel a c v ≡ took g → MaintainsOrder a c v g
-  new-label-maintains h = own (above a v) refl
+  new-label-maintains h = go (taken a c v h)
     where
-      same : a ≻ v → c ≻ v → a .s .0 ≡ v .s .0 → Ordered _<_ c v → (t : Bool) → above c a ≡ t → MaintainsOrder a c v g
-      same ha hc e o true k =
-          let taken : newLabel a c v ≡ took a = new-own a c v ha hc (omega arith) k in
-          let z : g ≡ a = cc in
-          rw z (record { own = ≻-irreflexive a; cached = k; advertised = ha; ranged = ra })
-      same ha hc e (by-number l) false k = clash (above-lower c a (omega arith)) k
-      same ha hc e (by-fraction f _) false k =
-          split-maintains hc f (inr k) (sym (new-split a c v ha hc (omega arith) k) ∙ h)
-
-      cases : a ≻ v → c ≻ v → Ordered _<_ a v → Ordered _<_ c v → MaintainsOrder a c v g
-      cases ha hc (by-number l) (by-number n) = next-maintains l n (sym (new-next a c v ha hc l n) ∙ h)
-      cases ha hc (by-number l) (by-fraction f _) =
-          split-maintains hc f (inl l) (sym (new-split-cached a c v ha hc l (omega arith)) ∙ h)
-      cases ha hc (by-fraction e _) o = same ha hc e o (above c a) refl
-
-      cached : a ≻ v → (t : Bool) → above c v ≡ t → MaintainsOrder a c v g
-      cached ha false hc = gave-none (new-113 a c v ha hc) h
-      cached ha true hc = cases ha hc (≻-ordered a v ha) (≻-ordered c v hc)
-
-      own : (t : Bool) → above a v ≡ t → MaintainsOrder a c v g
-      own false ha = gave-none (new-112 a c v ha) h
-      own true ha = cached ha (above c v) refl
+      go : Taken a c v g → MaintainsOrder a c v g
+      go (by-next l n k) = next-maintains l n k
+      go (by-split hc e o k) = split-maintains hc e o k
+      go (own-kept z k ha _) = rw z (record { own = ≻-irreflexive a; cached = k; advertised = ha; ranged = ra })
 
   -- It has the advertised sequence number.
   pub new-number : newLabel a c v ≡ took g → g .s .0 ≡ v .s .0
   unfolding next split
-  new-number h = own (above a v) refl
+  new-number h = go (taken a c v h)
     where
-      fits : (m d : ℕ) → fitting (v .s .0) m d ≡ took g → g .s .0 ≡ v .s .0
-      fits m d k = ap (λ (l : Label). l .s .0) (fitting-took (v .s .0) m d g k)
-
-      same : a ≻ v → c ≻ v → a .s .0 ≡ v .s .0 → (t : Bool) → above c a ≡ t → g .s .0 ≡ v .s .0
-      same ha hc e true k =
-          let taken : newLabel a c v ≡ took a = new-own a c v ha hc (omega arith) k in
-          let z : g ≡ a = cc in
-          ap (λ (l : Label). l .s .0) z ∙ e
-      same ha hc e false k = fits _ _ (sym (new-split a c v ha hc (omega arith) k) ∙ h)
-
-      cases : a ≻ v → c ≻ v → Ordered _<_ a v → Ordered _<_ c v → g .s .0 ≡ v .s .0
-      cases ha hc (by-number l) (by-number n) = fits _ _ (sym (new-next a c v ha hc l n) ∙ h)
-      cases ha hc (by-number l) (by-fraction f _) = fits _ _ (sym (new-split-cached a c v ha hc l (omega arith)) ∙ h)
-      cases ha hc (by-fraction e _) o = same ha hc e (above c a) refl
-
-      cached : a ≻ v → (t : Bool) → above c v ≡ t → g .s .0 ≡ v .s .0
-      cached ha false hc = gave-none (new-113 a c v ha hc) h
-      cached ha true hc = cases ha hc (≻-ordered a v ha) (≻-ordered c v hc)
-
-      own : (t : Bool) → above a v ≡ t → g .s .0 ≡ v .s .0
-      own false ha = gave-none (new-112 a c v ha) h
-      own true ha = cached ha (above c v) refl
+      go : Taken a c v g → g .s .0 ≡ v .s .0
+      go (by-next _ _ k) = rw (fitting-took _ _ _ g k)
+      go (by-split _ _ _ k) = rw (fitting-took _ _ _ g k)
+      go (own-kept z _ _ e) = rw z e

@@ -5,7 +5,7 @@ use mathlib.Core.Bool.{true, false}
 use native.Mathlib.Nat.{le-of-lt, mul-le-mul-right, mul-lt-mul-of-pos-right, le-of-mul-le-mul-right, lt-of-mul-lt-mul-left, lt-of-mul-lt-mul-right}
 use native.Mathlib.Omega.{arith}
 use borrow.Author.Tests.{lt-ltb, le-ltb, eq-eqb, ne-eqb, ltb-true, ltb-false}
-use Rattle.base.proofs.Flags.{clash, Against, less, equal, more, against}
+use Rattle.base.proofs.Booleans.{clash, Trichotomy, less, equal, more, trichotomy}
 use Rattle.label.specs.declared.Label.{Label}
 use Rattle.label.specs.Label.{inRange, smallerFraction, above, _≻_, _⪰_}
 use Rattle.label.proofs.Range.{range-denominator}
@@ -31,17 +31,17 @@ pub data Ordered (R : ℕ → ℕ → Type 0) (x y : Label) : Type 0 where
 -- Above is to be ordered by <, and at least is to be ordered by ≤.
 module _ (x y : Label) where
   pub ≻-ordered : x ≻ y → Ordered _<_ x y
-  ≻-ordered h = go (against (x .s .0) (y .s .0))
+  ≻-ordered h = go (trichotomy (x .s .0) (y .s .0))
     where
-      go : Against (x .s .0) (y .s .0) → Ordered _<_ x y
+      go : Trichotomy (x .s .0) (y .s .0) → Ordered _<_ x y
       go (less l) = by-number l
       go (equal e) = by-fraction e (ltb-true _ _ (sym (above-same x y e) ∙ h))
       go (more l) = clash h (above-higher x y l)
 
   pub ⪰-ordered : x ⪰ y → Ordered _≤_ x y
-  ⪰-ordered h = go (against (x .s .0) (y .s .0))
+  ⪰-ordered h = go (trichotomy (x .s .0) (y .s .0))
     where
-      go : Against (x .s .0) (y .s .0) → Ordered _≤_ x y
+      go : Trichotomy (x .s .0) (y .s .0) → Ordered _≤_ x y
       go (less l) = by-number l
       go (equal e) = by-fraction e (ltb-false _ _ (sym (above-same y x (sym e)) ∙ h))
       go (more l) = clash (above-lower y x l) h

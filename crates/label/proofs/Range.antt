@@ -5,7 +5,7 @@ use mathlib.Core.Bool.{Bool, true, false, _&&_, or-false}
 use native.Mathlib.Omega.{arith}
 use lib.Dec.{ltb, eqb}
 use borrow.Author.Tests.{lt-ltb, le-ltb, eq-eqb, ne-eqb, ltb-true, eqb-true, eqb-false}
-use Rattle.base.proofs.Flags.{both}
+use Rattle.base.proofs.Booleans.{both}
 use Rattle.label.specs.declared.Label.{Label}
 use Rattle.label.specs.Label.{unassigned, isUnassigned, inRange}
 

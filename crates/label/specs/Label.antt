@@ -4,6 +4,7 @@ use mathlib.Core.Path.{_≡_}
 use mathlib.Core.Bool.{Bool, true, false, _&&_, _||_, not}
 use lib.Dec.{ltb, eqb}
 use Rattle.base.specs.Choice.{if_then_else_}
+use Rattle.base.specs.Numbers.{maxU32}
 use Rattle.label.specs.declared.Label.{Label}
 use Rattle.label.specs.declared.NewLabel.{NewLabel}
 use Rattle.label.specs.declared.NewLabel.the-variants.{Took, OutOfRange, OwnNotAbove, CachedNotAbove, Overflow}
@@ -46,7 +47,7 @@ pub data Outcome : Type 0 where
 
 -- The label (s, m/d), but "a denominator over 4,294,967,295, in a split or in q+1, gives 114".
 unfoldable pub fitting : ℕ → ℕ → ℕ → Outcome
-fitting s m d = if ltb 4_294_967_295 d then gave 114 else took (label s m d)
+fitting s m d = if ltb maxU32 d then gave 114 else took (label s m d)
 
 -- "(v, (p+1)/(q+1))": V + 1/1 (003, Definition 6).
 unfoldable pub next : Label → Outcome

@@ -2,7 +2,7 @@
 ghost use mathlib.Core.Path.{_≡_};
 ghost use mathlib.Core.Bool.{true};
 ghost use Prim.Native.Nat.{_+_, _*_, _≤_};
-ghost use Rattle.label.specs.Label.{isUnassigned, inRange, above, fitting, next, split, newLabel, newLabelCall, outcome};
+ghost use Rattle.label.specs.Label.{label, isUnassigned, inRange, above, fitting, next, split, newLabel, newLabelCall, outcome};
 
 // A destination's sequence number.
 pub struct SequenceNumber(pub u64);
@@ -26,6 +26,17 @@ pub enum NewLabel {
     CachedNotAbove,
     // 114: the denominator doesn't fit 32 bits.
     Overflow,
+}
+
+// The label (s, m/d).
+pub fn label_of(s: u64, m: u32, d: u32) -> Label
+    ensures { λ r. ⌜ r ≡ label s m d ⌝ }
+{
+    Label {
+        s: SequenceNumber(s),
+        m: m,
+        d: d,
+    }
 }
 
 // Whether l is unassigned.
@@ -81,11 +92,11 @@ pub fn is_above(x: Label, y: Label) -> bool
 }
 
 // The label (s, m/d), if its denominator fits 32 bits.
-fn fitted(s: SequenceNumber, m: u64, d: u64) -> NewLabel
+fn fitting(s: SequenceNumber, m: u64, d: u64) -> NewLabel
     requires { ⌜ m ≤ d ⌝ }
     ensures { λ r. ⌜ outcome r ≡ fitting (s .0) m d ⌝ }
 {
-    if 4294967295 < d {
+    if (u32::MAX as u64) < d {
         return NewLabel::Overflow;
     }
     NewLabel::Took(Label {
@@ -100,7 +111,7 @@ fn next_of(v: Label) -> NewLabel
     requires { ⌜ inRange v ≡ true ⌝ }
     ensures { λ r. ⌜ outcome r ≡ next v ⌝ }
 {
-    fitted(v.s, sum(v.m, 1), sum(v.d, 1))
+    fitting(v.s, sum(v.m, 1), sum(v.d, 1))
 }
 
 // The split of c and v.
@@ -108,7 +119,7 @@ fn split_of(c: Label, v: Label) -> NewLabel
     requires { ⌜ (inRange c ≡ true) × (inRange v ≡ true) ⌝ }
     ensures { λ r. ⌜ outcome r ≡ split c v ⌝ }
 {
-    fitted(v.s, sum(c.m, v.m), sum(c.d, v.d))
+    fitting(v.s, sum(c.m, v.m), sum(c.d, v.d))
 }
 
 // New label, of labels in range.

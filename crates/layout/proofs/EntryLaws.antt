@@ -8,7 +8,7 @@ use lib.Seq.{sets}
 use lib.Dec.{ltb}
 use native.Mathlib.Omega.{arith}
 use Rattle.base.proofs.Lists.{flat-length}
-use Rattle.base.proofs.Flags.{choose}
+use Rattle.base.proofs.Booleans.{choose}
 use Rattle.base.proofs.Loops.{tabulate-length, tabulate-or}
 use Rattle.label.specs.declared.Label.{Label}
 use Rattle.label.specs.Label.{label}

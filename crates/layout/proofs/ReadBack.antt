@@ -8,7 +8,7 @@ use lib.Dec.{eqb}
 use native.Mathlib.Omega.{arith}
 use borrow.Author.Tests.{le-leb}
 use Rattle.base.specs.Lists.{tabulate}
-use Rattle.base.proofs.Flags.{passes}
+use Rattle.base.proofs.Booleans.{passes}
 use Rattle.base.proofs.Lists.{all-below}
 use Rattle.base.proofs.Loops.{tabulate-length, tabulate-at, tabulate-is, map-tabulate}
 use Rattle.codec.specs.Bytes.{littleEndian, byteAt, numberAt}

@@ -8,14 +8,16 @@ ghost use Rattle.network.specs.View.{successor, rowOf, recordOf};
 ghost use Rattle.layout.specs.Stored.{storedLabel, storedRow, storedRecord};
 ghost use Rattle.layout.specs.Written.{flag, labelBytes, zeroSuccessor, successorBytes, rowBytes, recordBytes};
 ghost use Rattle.layout.specs.Fits.{LabelFits, RowFits, RecordFits};
+ghost use Rattle.model.specs.Memory.{rowLimit};
 use codec::number_at;
 use codec::put_byte;
 use codec::put_number;
 use label::Label;
+use label::label_of;
+use network::ROW_LIMIT;
 use network::Record;
 use network::RequestNumber;
 use network::Row;
-use network::places::label_of;
 
 // A flag's byte.
 pub fn flag(yes: bool) -> u8
@@ -64,10 +66,10 @@ pub fn read_row(bytes: &[u8], at: usize) -> Row
     ensures { λ r. ⌜ r ≡ storedRow (now (bytes .entry)) at ⌝ }
 {
     let none = label_of(0, 0, 0);
-    let mut labels = [none; 4];
-    let mut stations = [0; 4];
+    let mut labels = [none; ROW_LIMIT as usize];
+    let mut stations = [0; ROW_LIMIT as usize];
     let mut k = 0;
-    while k < 4 {
+    while k < ROW_LIMIT as usize {
         stations[k] = bytes[at + 1 + 17 * k];
         labels[k] = read_label(bytes, at + 2 + 17 * k);
         k += 1;
@@ -88,7 +90,7 @@ pub struct Entry {
 
 // Entry k of a row, or zeros where the row has none.
 fn entry_of(row: Row, k: usize) -> Entry
-    requires { ⌜ k < 4 ⌝ }
+    requires { ⌜ k < rowLimit ⌝ }
     ensures { λ r. ⌜ successor (r .station) (r .label) ≡ getD (rowOf row) k zeroSuccessor ⌝ }
 {
     let count = row.count as usize;
@@ -123,7 +125,7 @@ pub fn put_row(out: &mut [u8], at: usize, row: Row)
     let count = row.count;
     put_byte(out, at, count);
     let mut k = 0;
-    while k < 4 {
+    while k < ROW_LIMIT as usize {
         put_entry(out, at + 1 + 17 * k, entry_of(row, k));
         k += 1;
     }

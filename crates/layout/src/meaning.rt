@@ -5,6 +5,7 @@ ghost use lib.ListN.{length};
 ghost use Rattle.base.specs.Lists.{allBelow};
 ghost use Rattle.layout.specs.Places.{packetsAt, layoutLength};
 ghost use Rattle.layout.specs.Meaning.{isFlag, pairHasMeaning, stationHasMeaning, isZeroLabel, fieldsHaveMeaning, packetHasMeaning, hasMeaning};
+ghost use Rattle.model.specs.Memory.{airLimit};
 use crate::packets::read_packet;
 use crate::places::ACTIVE_AT;
 use crate::places::AIR_AT;
@@ -12,6 +13,7 @@ use crate::places::LINKS_AT;
 use crate::places::PACKETS_AT;
 use crate::places::RECORDS_AT;
 use label::Label;
+use network::AIR_LIMIT;
 use network::Packet;
 
 // Whether a byte is a flag.
@@ -98,7 +100,7 @@ fn fields_have_meaning(p: Packet, reset: u8) -> bool
 
 // Every packet below the count.
 fn packets_have_meaning(bytes: &[u8], count: u8) -> bool
-    requires { ⌜ (layoutLength ≤ length (now bytes)) × (count ≤ 128) ⌝ }
+    requires { ⌜ (layoutLength ≤ length (now bytes)) × (count ≤ airLimit) ⌝ }
     ensures { λ r. ⌜ r ≡ allBelow count (λ k. packetHasMeaning (now (bytes .entry)) (packetsAt + 28 * k)) ⌝ }
 {
     let limit = count as usize;
@@ -124,7 +126,7 @@ pub fn has_meaning(bytes: &[u8]) -> bool
     if 16 < n {
         return false;
     }
-    if 128 < count {
+    if AIR_LIMIT < count {
         return false;
     }
     if !stations_have_meaning(bytes, n) {

@@ -33,17 +33,18 @@ use crate::stations::read_numbers;
 use crate::stations::read_sought;
 use codec::put_byte;
 use codec::put_bytes;
+use label::label_of;
 use network::Memory;
+use network::ROW_LIMIT;
 use network::Record;
 use network::RequestNumber;
 use network::Row;
-use network::places::label_of;
 
 // What a table is filled with before it is read.
 fn blank_row() -> Row {
     let none = label_of(0, 0, 0);
-    let labels = [none; 4];
-    let stations = [0; 4];
+    let labels = [none; ROW_LIMIT as usize];
+    let stations = [0; ROW_LIMIT as usize];
     Row {
         labels: labels,
         stations: stations,

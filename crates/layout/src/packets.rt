@@ -17,10 +17,11 @@ use crate::entries::read_label;
 use codec::number_at;
 use codec::put_byte;
 use codec::put_number;
+use label::label_of;
+use network::AIR_LIMIT;
 use network::Air;
 use network::Packet;
 use network::RequestNumber;
-use network::places::label_of;
 
 // The packet at a place.
 pub fn read_packet(bytes: &[u8], at: usize) -> Packet
@@ -144,9 +145,9 @@ pub fn read_air(bytes: &[u8], at: usize) -> Air
     ensures { λ r. ⌜ r ≡ storedAir (now (bytes .entry)) at ⌝ }
 {
     let none = bare(0, 0, 0, 0);
-    let mut packets = [none; 128];
+    let mut packets = [none; AIR_LIMIT as usize];
     let mut k = 0;
-    while k < 128 {
+    while k < AIR_LIMIT as usize {
         packets[k] = read_packet(bytes, at + 1 + 28 * k);
         k += 1;
     }
@@ -165,7 +166,7 @@ pub fn put_air(out: &mut [u8], at: usize, air: Air)
     put_byte(out, at, count);
     let limit = count as usize;
     let mut k = 0;
-    while k < 128 {
+    while k < AIR_LIMIT as usize {
         let p = air.packets[k];
         put_packet(out, at + 1 + 28 * k, counted(p, k < limit));
         k += 1;

@@ -1,44 +1,45 @@
--- Which numbers tell that a call was turned down: 1 to 8, and no accepted call answers with one of these.
+-- The answer tells how a call ended: refusals are numbers below 100, and no accepted call answers with one of these.
 use Prim.Native.Nat.{ℕ, _+_, _^_}
 use mathlib.Core.Path.{_≡_, refl, subst}
 use mathlib.Core.Bool.{Bool, true, false, not, _&&_, _||_}
 use lib.Dec.{ltb, leb, eqb}
 use native.Mathlib.Omega.{arith}
-use Rattle.base.proofs.Flags.{choose}
+use Rattle.base.proofs.Booleans.{choose}
+use Rattle.base.specs.Numbers.{maxU32}
+use Rattle.base.specs.Results.{Result, refused, accepted, refuse_when_otherwise_, isRefusal}
+use Rattle.base.proofs.Results.{Ends, accepts, ends-refuse, ends-refused, ends-accepted}
 use Rattle.label.specs.declared.Label.{Label}
 use Rattle.label.specs.Label.{Outcome, took, gave, above, fitting, next, split, newLabel}
 use Rattle.model.specs.Memory.{Request, Reply, Body, request, reply, error, other, Network, names, labelAt, rowAt, recordAt, setRecord}
 use Rattle.model.specs.Calls.{Call, Open, Up, Down, Solicit, GiveUp, Expire, Deliver, Lose, Duplicate}
-use Rattle.model.specs.Calls.{Effect, Result, refused, accepted, turnsDown, refuse_when_otherwise_, limited, opening, step}
-use Rattle.model.specs.Calls.{bit, removes, emptied, recordOf, resets, canReply, matches, passesOn}
+use Rattle.model.specs.Calls.{Effect, limited, opening, step}
+use Rattle.model.specs.Calls.{bit, removes, emptied, recorded, resets, canReply, matches, passesOn}
 use Rattle.model.specs.Calls.{sending, down, solicit, replyTo, atDestination, engage, onRequest, passOn, onOutcome, onReply, errorOutcome, onError, receive, deliver}
 
 record Answers (e : Effect) : Type 0 where
-  tells : turnsDown (e .answer) ≡ false
+  tells : isRefusal (e .answer) ≡ false
 
-data Tells : Result → Type 0 where
-  refuses : {number : ℕ} → turnsDown number ≡ true → Tells (refused number)
-  accepts : {e : Effect} → Answers e → Tells (accepted e)
+abbrev Tells : Result Effect → Type 0
+Tells z = Ends (λ number. isRefusal number ≡ true) Answers z
 
-refuse-tells : (number : ℕ) (case : Bool) (rest : Result) → turnsDown number ≡ true → Tells rest → Tells (refuse number when case otherwise rest)
-unfolding refuse_when_otherwise_
-refuse-tells number case rest h k = choose Tells case (λ e. refuses h) (λ e. k)
+refuse-tells : (number : ℕ) (case : Bool) (rest : Result Effect) → isRefusal number ≡ true → Tells rest → Tells (refuse number when case otherwise rest)
+refuse-tells number case rest h k = ends-refuse number case rest h (λ e. k)
 
 limited-tells : (e : Effect) → Answers e → Tells (limited e)
-unfolding limited turnsDown
+unfolding limited isRefusal
 limited-tells e h = refuse-tells 7 _ (accepted e) refl (accepts h)
 
 -- The numbers of New label.
 data Gives : Outcome → Type 0 where
   takes : {g : Label} → Gives (took g)
-  gives : {number : ℕ} → turnsDown number ≡ false → Gives (gave number)
+  gives : {number : ℕ} → isRefusal number ≡ false → Gives (gave number)
 
 fitting-gives : (s m d : ℕ) → Gives (fitting s m d)
-unfolding fitting turnsDown
-fitting-gives s m d = choose Gives (ltb 4_294_967_295 d) (λ e. gives refl) (λ e. takes)
+unfolding fitting isRefusal
+fitting-gives s m d = choose Gives (ltb maxU32 d) (λ e. gives refl) (λ e. takes)
 
 new-gives : (a c v : Label) → Gives (newLabel a c v)
-unfolding newLabel next split turnsDown
+unfolding newLabel next split isRefusal
 new-gives a c v =
     choose Gives (not (above a v)) (λ e. gives refl) (λ e. choose Gives (not (above c v)) (λ e. gives refl)
     (λ e. choose Gives (ltb (a .s .0) (v .s .0) && ltb (c .s .0) (v .s .0)) (λ e. fitting-gives (v .s .0) (v .m + 1) (v .d + 1))
@@ -48,60 +49,60 @@ new-gives a c v =
 -- What a packet's receiver answers.
 module _ (i j : ℕ) (R : Request) (net : Network) where
   destination-answers : Answers (atDestination i j R net)
-  unfolding atDestination replyTo sending turnsDown
+  unfolding atDestination replyTo sending isRefusal
   destination-answers =
       choose Answers (not (resets (labelAt net i i) R)) (λ e. record { tells = refl })
       (λ e. choose Answers (leb (2 ^ 64) (R .label .s .0 + 1)) (λ e. record { tells = refl }) (λ e. record { tells = refl }))
 
   engage-answers : Answers (engage i j R net)
-  unfolding engage replyTo sending turnsDown
+  unfolding engage replyTo sending isRefusal
   engage-answers =
       choose Answers (eqb i (R .destination)) (λ e. destination-answers)
       (λ e. choose Answers (canReply (labelAt net i (R .destination)) (rowAt net i (R .destination)) R) (λ e. record { tells = refl }) (λ e. record { tells = refl }))
 
 request-answers : (i j : ℕ) (R : Request) (net : Network) → Answers (onRequest i j R net)
-unfolding onRequest turnsDown
+unfolding onRequest isRefusal
 request-answers i j R net =
     choose Answers (eqb i (R .source) || leb (R .number) (recordAt net i (R .source) .number)) (λ e. record { tells = refl })
-    (λ e. engage-answers i j R (setRecord i (R .source) (recordOf j R) net))
+    (λ e. engage-answers i j R (setRecord i (R .source) (recorded j R) net))
 
-pass-answers : (answer i : ℕ) (v : Reply) (net : Network) → turnsDown answer ≡ false → Answers (passOn answer i v net)
+pass-answers : (answer i : ℕ) (v : Reply) (net : Network) → isRefusal answer ≡ false → Answers (passOn answer i v net)
 unfolding passOn replyTo sending
 pass-answers answer i v net h = choose Answers (passesOn i v net) (λ e. record { tells = h }) (λ e. record { tells = h })
 
 outcome-answers : (i j : ℕ) (v : Reply) (o : Outcome) (net : Network) → Gives o → Answers (onOutcome i j v o net)
-unfolding onOutcome turnsDown
+unfolding onOutcome isRefusal
 outcome-answers i j v (gave number) net (gives h) = pass-answers number i v net h
 outcome-answers i j v (took g) net h = pass-answers 115 i v _ refl
 
 reply-answers : (i j : ℕ) (v : Reply) (net : Network) → Answers (onReply i j v net)
-unfolding onReply turnsDown
+unfolding onReply isRefusal
 reply-answers i j v net =
     choose Answers (eqb i (v .destination) || not (matches i v net)) (λ e. record { tells = refl }) (λ e. outcome-answers i j v _ net (new-gives _ _ _))
 
 error-answers : (i j mask : ℕ) (net : Network) → Answers (onError i j mask net)
-unfolding onError sending errorOutcome turnsDown
+unfolding onError sending errorOutcome isRefusal
 error-answers i j mask net = record {
   tells = outcome (removes (bit mask) (names j) i (net .n) (net .rows)) (emptied (bit mask) (names j) i (net .n) (net .rows));
 }
   where
-    outcome : (removed : Bool) (gone : ℕ) → turnsDown (errorOutcome removed gone) ≡ false
-    outcome true gone = choose (λ k. turnsDown k ≡ false) (eqb gone 0) (λ e. refl) (λ e. refl)
+    outcome : (removed : Bool) (gone : ℕ) → isRefusal (errorOutcome removed gone) ≡ false
+    outcome true gone = choose (λ k. isRefusal k ≡ false) (eqb gone 0) (λ e. refl) (λ e. refl)
     outcome false gone = refl
 
 receive-answers : (i j : ℕ) (b : Body) (net : Network) → Answers (receive i j b net)
-unfolding receive turnsDown
+unfolding receive isRefusal
 receive-answers i j (request R) net = request-answers i j R net
 receive-answers i j (reply v) net = reply-answers i j v net
 receive-answers i j (error mask) net = error-answers i j mask net
 receive-answers i j (other kind) net = record { tells = refl }
 
 none-answers : (e : Effect) → e .answer ≡ 0 → Answers e
-unfolding turnsDown
+unfolding isRefusal
 none-answers e z = record { tells = rw z }
 
 step-tells : (c : Call) (net : Network) → Tells (step c net)
-unfolding step opening down solicit sending deliver turnsDown
+unfolding step opening down solicit sending deliver isRefusal
 step-tells (Open n start) net = refuse-tells 1 _ _ refl (accepts (none-answers _ refl))
 step-tells (Up a b) net = refuse-tells 1 _ _ refl (refuse-tells 2 _ _ refl (refuse-tells 3 _ _ refl (accepts (none-answers _ refl))))
 step-tells (Down a b) net = refuse-tells 1 _ _ refl (refuse-tells 2 _ _ refl (refuse-tells 3 _ _ refl (limited-tells _ (none-answers _ refl))))
@@ -114,16 +115,8 @@ step-tells (Lose k) net = refuse-tells 1 _ _ refl (refuse-tells 6 _ _ refl (acce
 step-tells (Duplicate k) net = refuse-tells 1 _ _ refl (refuse-tells 6 _ _ refl (limited-tells _ (none-answers _ refl)))
 
 -- So the answer tells how a call ended.
-told : (z : Result) → Tells z → (number : ℕ) → z ≡ refused number → turnsDown number ≡ true
-told (refused k) (refuses h) number e = let q : k ≡ number = cc in subst (λ n. turnsDown n ≡ true) q h
-told (accepted x) t number e = let z : _≡_ {A = ℕ} 0 1 = cc in absurd (omega arith)
+pub refused-tells : (c : Call) (net : Network) (number : ℕ) → step c net ≡ refused number → isRefusal number ≡ true
+refused-tells c net number e = ends-refused (step c net) number (step-tells c net) e
 
-answered : (z : Result) → Tells z → (e : Effect) → z ≡ accepted e → turnsDown (e .answer) ≡ false
-answered (refused k) t e h = let z : _≡_ {A = ℕ} 0 1 = cc in absurd (omega arith)
-answered (accepted x) (accepts a) e h = let q : x ≡ e = cc in subst (λ (y : Effect). turnsDown (y .answer) ≡ false) q (a .tells)
-
-pub refused-tells : (c : Call) (net : Network) (number : ℕ) → step c net ≡ refused number → turnsDown number ≡ true
-refused-tells c net number e = told (step c net) (step-tells c net) number e
-
-pub accepted-tells : (c : Call) (net : Network) (e : Effect) → step c net ≡ accepted e → turnsDown (e .answer) ≡ false
-accepted-tells c net e h = answered (step c net) (step-tells c net) e h
+pub accepted-tells : (c : Call) (net : Network) (e : Effect) → step c net ≡ accepted e → isRefusal (e .answer) ≡ false
+accepted-tells c net e h = ends-accepted (step c net) e (step-tells c net) h .tells

@@ -8,13 +8,13 @@ use native.Mathlib.Omega.{arith}
 use lib.ListN.{length, getD}
 use lib.Dec.{ltb, eqb}
 use borrow.Author.Tests.{eq-eqb, ne-eqb, eqb-true, eqb-false, ltb-false, not-false}
-use Rattle.base.proofs.Flags.{neither, choose, clash}
+use Rattle.base.proofs.Booleans.{neither, choose, clash}
 use Rattle.base.specs.Lists.{tabulate}
 use Rattle.base.proofs.Loops.{tabulate-more}
 use Rattle.model.specs.Memory.{Network, fresh}
-use Rattle.model.specs.Calls.{Call, effect, refused, accepted, after, refuse_when_otherwise_, notOpening, step, run}
+use Rattle.model.specs.Calls.{Call, after, step, run}
 use Rattle.model.specs.Calls.{Open, Up, Down, Solicit, GiveUp, Expire, Deliver, Lose, Duplicate}
-use Rattle.model.specs.Events.{usesOne, notEvent, callOf, Event, calls, traces, noEvent, eventOf, eventAt, callsIn, notEvents, afterFirst, running}
+use Rattle.model.specs.Events.{usesOne, notEvent, callOf, Event, calls, traces, noEvent, eventOf, eventAt, callsIn, eventLimit, notEvents, afterFirst}
 use Rattle.model.proofs.Refusals.{OnMemory}
 
 -- A list of calls and then another.
@@ -182,24 +182,9 @@ event-determines kind a b kind′ a′ b′ h h′ e =
     let same : kind ∷ a ∷ b ∷ [] ≡ kind′ ∷ a′ ∷ b′ ∷ [] = sym (event-parts kind a b h) ∙ ap eventParts e ∙ event-parts kind′ a′ b′ h′ in
     (ap (λ l. getD l 0 0) same, ap (λ l. getD l 1 0) same, ap (λ l. getD l 2 0) same)
 
--- A run of events, by its tests.
-module _ (n start : ℕ) (kinds operands : List ℕ) where
-  pub running-10 : notEvents (length kinds) (length operands) ≡ true → running n start kinds operands ≡ refused 10
-  unfolding running refuse_when_otherwise_
-  running-10 h = rw h
-
-  pub running-1 : notEvents (length kinds) (length operands) ≡ false → notOpening n start ≡ true → running n start kinds operands ≡ refused 1
-  unfolding running refuse_when_otherwise_
-  running-1 h k = rw (h, k)
-
-  pub running-accepted : notEvents (length kinds) (length operands) ≡ false → notOpening n start ≡ false
-      → running n start kinds operands ≡ accepted (effect 0 0 (afterFirst n start kinds operands (length kinds)))
-  unfolding running refuse_when_otherwise_
-  running-accepted h k = rw (h, k)
-
 -- What the test for 10 tells.
-pub events-tell : (kinds operands : ℕ) → notEvents kinds operands ≡ false → (kinds ≤ 4_096) × (operands ≡ 2 * kinds)
+pub events-tell : (kinds operands : ℕ) → notEvents kinds operands ≡ false → (kinds ≤ eventLimit) × (operands ≡ 2 * kinds)
 unfolding notEvents
 events-tell kinds operands h =
-    let w = neither (ltb 4_096 kinds) (not (eqb operands (2 * kinds))) h in
-    (omega (arith, ltb-false 4_096 kinds (w .0)), eqb-true operands (2 * kinds) (not-false (eqb operands (2 * kinds)) (w .1)))
+    let w = neither (ltb eventLimit kinds) (not (eqb operands (2 * kinds))) h in
+    (omega (arith, ltb-false eventLimit kinds (w .0)), eqb-true operands (2 * kinds) (not-false (eqb operands (2 * kinds)) (w .1)))

@@ -11,7 +11,7 @@ use Rattle.label.specs.Label.{label, unassigned, inRange}
 use Rattle.label.proofs.Range.{assigned-in-range, unassigned-in-range}
 use Rattle.model.specs.Memory.{Row, place, zeroLabel, zeroRecord, labelIn, freshLabels, freshRecord, fresh}
 use Rattle.model.proofs.Invariant.{CellOk, RecordOk, set-one, place-below}
-use Rattle.model.proofs.Range.{Kept}
+use Rattle.model.proofs.Range.{Invariant}
 
 -- The labels once the stations below c have their own.
 record Labelled (n c : ℕ) (L : List Label) : Type 0 where
@@ -38,13 +38,13 @@ fresh-labelled n start high hs (suc c) hc =
           (λ i t hi ht q. (o .each i t hi ht .0, λ e h. o .each i t hi ht .1 e (omega arith)));
     }
 
-pub fresh-kept : {Made : Type 0} (n start : ℕ) → 2 ≤ n → n ≤ 16 → 0 < start → Kept Made (fresh n start)
+pub fresh-invariant : {Reachable : Type 0} (n start : ℕ) → 2 ≤ n → n ≤ 16 → 0 < start → Invariant Reachable (fresh n start)
 unfolding fresh distinct freshRecord
-fresh-kept {Made} n start low high hs =
+fresh-invariant {Reachable} n start low high hs =
     let o = fresh-labelled n start high hs n (omega arith) in
     let L = freshLabels start n in
     record {
-      good = record {
+      formed = record {
         low = low;
         high = high;
         tables = record {
@@ -52,7 +52,7 @@ fresh-kept {Made} n start low high hs =
           rows-length = length-replicate {A = Row} 256 [];
           cell = λ i t hi ht.
               let at = getD-replicate {A = Row} 256 (place i t) [] [] (place-below i t n hi ht high) in
-              subst (CellOk Made n L (replicate 256 false) i t (labelIn L i t)) (sym at) (empty L o i t hi ht);
+              subst (CellOk Reachable n L (replicate 256 false) i t (labelIn L i t)) (sym at) (empty L o i t hi ht);
         };
         records = record {
           records-length = length-replicate 256 freshRecord;
@@ -69,7 +69,7 @@ fresh-kept {Made} n start low high hs =
       room = omega arith;
     }
   where
-    empty : (L : List Label) → Labelled n n L → (i t : ℕ) → i < n → t < n → CellOk Made n L (replicate 256 false) i t (labelIn L i t) []
+    empty : (L : List Label) → Labelled n n L → (i t : ℕ) → i < n → t < n → CellOk Reachable n L (replicate 256 false) i t (labelIn L i t) []
     empty L o i t hi ht = let w = o .each i t hi ht in record {
       ranged = w .0;
       own = λ e. (w .1 e hi .0, w .1 e hi .1, refl);

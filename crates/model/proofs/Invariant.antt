@@ -1,6 +1,6 @@
 -- The invariant of the network's memory, by its parts, and that each setter keeps it.
 --
--- It serves two claims, told apart by Made. With Made = ⊥ it is what the range test tells of any memory. With Made = Unit it also tells how
+-- It serves two claims, told apart by Reachable. With Reachable = ⊥ it is what the range test tells of any memory. With Reachable = Unit it also tells how
 -- routes run down in memory that calls made from an opening: `Route` and `Underway`. So each call is shown once to keep both.
 use Prim.Native.Nat.{ℕ, _^_, _≤_, _<_}
 use mathlib.Core.Path.{_≡_, refl, ap, subst₂, _∙_}
@@ -29,26 +29,26 @@ use Rattle.model.proofs.Rows.{keep-distinct}
 pub record Route (L : List Label) (K : List Bool) (i t : ℕ) (l : Label) (e : Successor) : Type 0 where
   pub up : linkIn K i (e .station) ≡ true
   pub lower : l ≻ e .label
-  pub kept : e .label ⪰ labelIn L (e .station) t
+  pub advertised : e .label ⪰ labelIn L (e .station) t
 
-pub record SuccessorOk (Made : Type 0) (n : ℕ) (L : List Label) (K : List Bool) (i t : ℕ) (l : Label) (e : Successor) : Type 0 where
+pub record SuccessorOk (Reachable : Type 0) (n : ℕ) (L : List Label) (K : List Bool) (i t : ℕ) (l : Label) (e : Successor) : Type 0 where
   pub below : e .station < n
   pub apart : e .station ≢ i
   pub ranged : inRange (e .label) ≡ true
-  pub route : Made → Route L K i t l e
+  pub route : Reachable → Route L K i t l e
 
 -- Station i's label l and row r for t.
-pub record CellOk (Made : Type 0) (n : ℕ) (L : List Label) (K : List Bool) (i t : ℕ) (l : Label) (r : Row) : Type 0 where
+pub record CellOk (Reachable : Type 0) (n : ℕ) (L : List Label) (K : List Bool) (i t : ℕ) (l : Label) (r : Row) : Type 0 where
   pub ranged : inRange l ≡ true
   pub own : i ≡ t → (l .m ≡ 0) × (l .d ≡ 1) × (r ≡ [])
   pub short : length r ≤ 4
   pub once : distinct (stations r) ≡ true
-  pub each : (e : Successor) → List·Memᴰ e r → SuccessorOk Made n L K i t l e
+  pub each : (e : Successor) → List·Memᴰ e r → SuccessorOk Reachable n L K i t l e
 
-pub record TablesOk (Made : Type 0) (n : ℕ) (L : List Label) (K : List Bool) (R : List Row) : Type 0 where
+pub record TablesOk (Reachable : Type 0) (n : ℕ) (L : List Label) (K : List Bool) (R : List Row) : Type 0 where
   pub labels-length : length L ≡ 256
   pub rows-length : length R ≡ 256
-  pub cell : (i t : ℕ) → i < n → t < n → CellOk Made n L K i t (labelIn L i t) (rowIn R i t)
+  pub cell : (i t : ℕ) → i < n → t < n → CellOk Reachable n L K i t (labelIn L i t) (rowIn R i t)
 
 -- A request's or a reply's source, number, destination and label.
 pub record HeadOk (n source number destination : ℕ) (l : Label) : Type 0 where
@@ -74,15 +74,15 @@ pub record Underway (L : List Label) (K : List Bool) (p : Packet) : Type 0 where
   pub up : linkIn K (p .sender) (p .receiver) ≡ true
   pub advertised : Advertised L (p .sender) (p .body)
 
-pub record PacketOk (Made : Type 0) (n : ℕ) (L : List Label) (K : List Bool) (p : Packet) : Type 0 where
+pub record PacketOk (Reachable : Type 0) (n : ℕ) (L : List Label) (K : List Bool) (p : Packet) : Type 0 where
   pub sender-below : p .sender < n
   pub receiver-below : p .receiver < n
   pub apart : p .sender ≢ p .receiver
   pub body : BodyOk n (p .body)
-  pub underway : Made → Underway L K p
+  pub underway : Reachable → Underway L K p
 
 abbrev pub AirOk : Type 0 → ℕ → List Label → List Bool → List Packet → Type 0
-AirOk Made n L K air = (p : Packet) → List·Memᴰ p air → PacketOk Made n L K p
+AirOk Reachable n L K air = (p : Packet) → List·Memᴰ p air → PacketOk Reachable n L K p
 
 pub record RecordOk (n : ℕ) (r : Record) : Type 0 where
   pub destination-below : r .destination < n
@@ -98,49 +98,49 @@ pub record SoughtOk (n : ℕ) (l : List ℕ) : Type 0 where
   pub sought-length : length l ≡ 16
   pub each : (i : ℕ) → i < n → getD l i 0 < n
 
-pub record Good (Made : Type 0) (net : Network) : Type 0 where
+pub record WellFormed (Reachable : Type 0) (net : Network) : Type 0 where
   pub low : 2 ≤ net .n
   pub high : net .n ≤ 16
-  pub tables : TablesOk Made (net .n) (net .labels) (net .links) (net .rows)
+  pub tables : TablesOk Reachable (net .n) (net .labels) (net .links) (net .rows)
   pub records : RecordsOk (net .n) (net .records)
   pub sought : SoughtOk (net .n) (net .sought)
-  pub air : AirOk Made (net .n) (net .labels) (net .links) (net .air)
+  pub air : AirOk Reachable (net .n) (net .labels) (net .links) (net .air)
 
 -- One lemma for each setter: the parts that its field is in hold of the new value. Labels and rows may change together.
-module _ {Made : Type 0} (net : Network) (ok : Good Made net) where
-  pub good-tables : (L : List Label) (R : List Row) → TablesOk Made (net .n) L (net .links) R → AirOk Made (net .n) L (net .links) (net .air)
-      → Good Made (setRows R (setLabels L net))
+module _ {Reachable : Type 0} (net : Network) (ok : WellFormed Reachable net) where
+  pub well-formed-tables : (L : List Label) (R : List Row) → TablesOk Reachable (net .n) L (net .links) R → AirOk Reachable (net .n) L (net .links) (net .air)
+      → WellFormed Reachable (setRows R (setLabels L net))
   unfolding setRows setLabels
-  good-tables L R tables air = record { low = ok .low; high = ok .high; tables = tables; records = ok .records; sought = ok .sought; air = air }
+  well-formed-tables L R tables air = record { low = ok .low; high = ok .high; tables = tables; records = ok .records; sought = ok .sought; air = air }
 
-  pub good-rows : (R : List Row) → TablesOk Made (net .n) (net .labels) (net .links) R → Good Made (setRows R net)
+  pub well-formed-rows : (R : List Row) → TablesOk Reachable (net .n) (net .labels) (net .links) R → WellFormed Reachable (setRows R net)
   unfolding setRows
-  good-rows R tables = record { low = ok .low; high = ok .high; tables = tables; records = ok .records; sought = ok .sought; air = ok .air }
+  well-formed-rows R tables = record { low = ok .low; high = ok .high; tables = tables; records = ok .records; sought = ok .sought; air = ok .air }
 
-  pub good-records : (C : List Record) → RecordsOk (net .n) C → Good Made (setRecords C net)
+  pub well-formed-records : (C : List Record) → RecordsOk (net .n) C → WellFormed Reachable (setRecords C net)
   unfolding setRecords
-  good-records C records = record { low = ok .low; high = ok .high; tables = ok .tables; records = records; sought = ok .sought; air = ok .air }
+  well-formed-records C records = record { low = ok .low; high = ok .high; tables = ok .tables; records = records; sought = ok .sought; air = ok .air }
 
-  pub good-links : (K : List Bool) → TablesOk Made (net .n) (net .labels) K (net .rows) → AirOk Made (net .n) (net .labels) K (net .air)
-      → Good Made (setLinks K net)
+  pub well-formed-links : (K : List Bool) → TablesOk Reachable (net .n) (net .labels) K (net .rows) → AirOk Reachable (net .n) (net .labels) K (net .air)
+      → WellFormed Reachable (setLinks K net)
   unfolding setLinks
-  good-links K tables air = record { low = ok .low; high = ok .high; tables = tables; records = ok .records; sought = ok .sought; air = air }
+  well-formed-links K tables air = record { low = ok .low; high = ok .high; tables = tables; records = ok .records; sought = ok .sought; air = air }
 
-  pub good-numbers : (l : List ℕ) → Good Made (setNumbers l net)
+  pub well-formed-numbers : (l : List ℕ) → WellFormed Reachable (setNumbers l net)
   unfolding setNumbers
-  good-numbers l = record { low = ok .low; high = ok .high; tables = ok .tables; records = ok .records; sought = ok .sought; air = ok .air }
+  well-formed-numbers l = record { low = ok .low; high = ok .high; tables = ok .tables; records = ok .records; sought = ok .sought; air = ok .air }
 
-  pub good-soughts : (l : List ℕ) → SoughtOk (net .n) l → Good Made (setSoughts l net)
+  pub well-formed-soughts : (l : List ℕ) → SoughtOk (net .n) l → WellFormed Reachable (setSoughts l net)
   unfolding setSoughts
-  good-soughts l sought = record { low = ok .low; high = ok .high; tables = ok .tables; records = ok .records; sought = sought; air = ok .air }
+  well-formed-soughts l sought = record { low = ok .low; high = ok .high; tables = ok .tables; records = ok .records; sought = sought; air = ok .air }
 
-  pub good-actives : (l : List Bool) → Good Made (setActives l net)
+  pub well-formed-actives : (l : List Bool) → WellFormed Reachable (setActives l net)
   unfolding setActives
-  good-actives l = record { low = ok .low; high = ok .high; tables = ok .tables; records = ok .records; sought = ok .sought; air = ok .air }
+  well-formed-actives l = record { low = ok .low; high = ok .high; tables = ok .tables; records = ok .records; sought = ok .sought; air = ok .air }
 
-  pub good-air : (air : List Packet) → AirOk Made (net .n) (net .labels) (net .links) air → Good Made (setAir air net)
+  pub well-formed-air : (air : List Packet) → AirOk Reachable (net .n) (net .labels) (net .links) air → WellFormed Reachable (setAir air net)
   unfolding setAir
-  good-air air air-ok = record { low = ok .low; high = ok .high; tables = ok .tables; records = ok .records; sought = ok .sought; air = air-ok }
+  well-formed-air air air-ok = record { low = ok .low; high = ok .high; tables = ok .tables; records = ok .records; sought = ok .sought; air = air-ok }
 
 -- Places of a table.
 
@@ -187,9 +187,9 @@ set-one P l x d n i t high len hi ht new old = set-both (λ a b u v. P a b u) l 
 
 -- Rows.
 
-module _ {Made : Type 0} {n : ℕ} {L : List Label} {K : List Bool} {i t : ℕ} {l : Label} {r : Row} (c : CellOk Made n L K i t l r) where
+module _ {Reachable : Type 0} {n : ℕ} {L : List Label} {K : List Bool} {i t : ℕ} {l : Label} {r : Row} (c : CellOk Reachable n L K i t l r) where
   -- A row with entries left out, and an empty one.
-  pub cell-keep : (f : Successor → Bool) → CellOk Made n L K i t l (keep f r)
+  pub cell-keep : (f : Successor → Bool) → CellOk Reachable n L K i t l (keep f r)
   unfolding keep
   cell-keep f = record {
     ranged = c .ranged;
@@ -199,7 +199,7 @@ module _ {Made : Type 0} {n : ℕ} {L : List Label} {K : List Bool} {i t : ℕ} 
     each = λ e m. c .each e (keep-mem f r m .0);
   }
 
-  pub cell-empty : CellOk Made n L K i t l []
+  pub cell-empty : CellOk Reachable n L K i t l []
   unfolding distinct
   cell-empty = record {
     ranged = c .ranged;
@@ -211,94 +211,94 @@ module _ {Made : Type 0} {n : ℕ} {L : List Label} {K : List Bool} {i t : ℕ} 
 
 -- Labels that go down or stay.
 
-abbrev pub Sinks : ℕ → List Label → List Label → Type 0
-Sinks n L L′ = (i t : ℕ) → i < n → t < n → labelIn L i t ⪰ labelIn L′ i t
+abbrev pub Monotone : ℕ → List Label → List Label → Type 0
+Monotone n L L′ = (i t : ℕ) → i < n → t < n → labelIn L i t ⪰ labelIn L′ i t
 
-module _ {Made : Type 0} (n : ℕ) (L L′ : List Label) (K : List Bool) (R : List Row) (ok : TablesOk Made n L K R) (sinks : Sinks n L L′) where
+module _ {Reachable : Type 0} (n : ℕ) (L L′ : List Label) (K : List Bool) (R : List Row) (ok : TablesOk Reachable n L K R) (monotone : Monotone n L L′) where
   -- A label that was at least j's is so still.
-  pub kept-sinks : (j t : ℕ) (l : Label) → j < n → t < n → l ⪰ labelIn L j t → l ⪰ labelIn L′ j t
-  kept-sinks j t l hj ht k = ⪰-transitive l (labelIn L j t) (labelIn L′ j t) (ok .cell j t hj ht .ranged) k (sinks j t hj ht)
+  pub bound-monotone : (j t : ℕ) (l : Label) → j < n → t < n → l ⪰ labelIn L j t → l ⪰ labelIn L′ j t
+  bound-monotone j t l hj ht k = ⪰-transitive l (labelIn L j t) (labelIn L′ j t) (ok .cell j t hj ht .ranged) k (monotone j t hj ht)
 
-  pub successor-sinks : (i t : ℕ) (l : Label) (e : Successor) → t < n → SuccessorOk Made n L K i t l e → SuccessorOk Made n L′ K i t l e
-  successor-sinks i t l e ht o = record {
+  pub successor-monotone : (i t : ℕ) (l : Label) (e : Successor) → t < n → SuccessorOk Reachable n L K i t l e → SuccessorOk Reachable n L′ K i t l e
+  successor-monotone i t l e ht o = record {
     below = o .below;
     apart = o .apart;
     ranged = o .ranged;
-    route = λ made. let r = o .route made in
-        record { up = r .up; lower = r .lower; kept = kept-sinks (e .station) t (e .label) (o .below) ht (r .kept) };
+    route = λ reachable. let r = o .route reachable in
+        record { up = r .up; lower = r .lower; advertised = bound-monotone (e .station) t (e .label) (o .below) ht (r .advertised) };
   }
 
-  pub cell-sinks : (i t : ℕ) (l : Label) (r : Row) → t < n → CellOk Made n L K i t l r → CellOk Made n L′ K i t l r
-  cell-sinks i t l r ht c = record {
+  pub cell-monotone : (i t : ℕ) (l : Label) (r : Row) → t < n → CellOk Reachable n L K i t l r → CellOk Reachable n L′ K i t l r
+  cell-monotone i t l r ht c = record {
     ranged = c .ranged;
     own = c .own;
     short = c .short;
     once = c .once;
-    each = λ e m. successor-sinks i t l e ht (c .each e m);
+    each = λ e m. successor-monotone i t l e ht (c .each e m);
   }
 
-  advertised-sinks : (j : ℕ) (b : Body) → j < n → BodyOk n b → Advertised L j b → Advertised L′ j b
-  advertised-sinks j (request R) hj o a = a
-  advertised-sinks j (reply v) hj o a = kept-sinks j (v .destination) (v .label) hj (o .destination-below) a
-  advertised-sinks j (error mask) hj o a = a
-  advertised-sinks j (other kind) hj o a = a
+  advertised-monotone : (j : ℕ) (b : Body) → j < n → BodyOk n b → Advertised L j b → Advertised L′ j b
+  advertised-monotone j (request R) hj o a = a
+  advertised-monotone j (reply v) hj o a = bound-monotone j (v .destination) (v .label) hj (o .destination-below) a
+  advertised-monotone j (error mask) hj o a = a
+  advertised-monotone j (other kind) hj o a = a
 
-  pub air-sinks : (air : List Packet) → AirOk Made n L K air → AirOk Made n L′ K air
-  air-sinks air ok p m = let o = ok p m in record {
+  pub air-monotone : (air : List Packet) → AirOk Reachable n L K air → AirOk Reachable n L′ K air
+  air-monotone air ok p m = let o = ok p m in record {
     sender-below = o .sender-below;
     receiver-below = o .receiver-below;
     apart = o .apart;
     body = o .body;
-    underway = λ made. let u = o .underway made in
-        record { up = u .up; advertised = advertised-sinks (p .sender) (p .body) (o .sender-below) (o .body) (u .advertised) };
+    underway = λ reachable. let u = o .underway reachable in
+        record { up = u .up; advertised = advertised-monotone (p .sender) (p .body) (o .sender-below) (o .body) (u .advertised) };
   }
 
 -- (i, t) gets a label that its own is at least.
-pub label-sinks : (n : ℕ) (L : List Label) → n ≤ 16 → length L ≡ 256 → (i t : ℕ) (g : Label) → i < n → t < n
-    → labelIn L i t ⪰ g → Sinks n L (set L (place i t) g)
-label-sinks n L high len i t g hi ht low =
+pub label-monotone : (n : ℕ) (L : List Label) → n ≤ 16 → length L ≡ 256 → (i t : ℕ) (g : Label) → i < n → t < n
+    → labelIn L i t ⪰ g → Monotone n L (set L (place i t) g)
+label-monotone n L high len i t g hi ht low =
     set-one (λ j s x. labelIn L j s ⪰ x) L g zeroLabel n i t high len hi ht low (λ j s hj hs q. ≻-irreflexive (labelIn L j s))
 
 -- (i, t) gets a label that its own is at least, and a row.
-module _ {Made : Type 0} (net : Network) (ok : Good Made net) (i t : ℕ) (hi : i < net .n) (ht : t < net .n) where
-  pub good-cell : (g : Label) (r : Row) → labelIn (net .labels) i t ⪰ g
-      → CellOk Made (net .n) (set (net .labels) (place i t) g) (net .links) i t g r
-      → Good Made (setRows (set (net .rows) (place i t) r) (setLabels (set (net .labels) (place i t) g) net))
-  good-cell g r low c =
+module _ {Reachable : Type 0} (net : Network) (ok : WellFormed Reachable net) (i t : ℕ) (hi : i < net .n) (ht : t < net .n) where
+  pub well-formed-cell : (g : Label) (r : Row) → labelIn (net .labels) i t ⪰ g
+      → CellOk Reachable (net .n) (set (net .labels) (place i t) g) (net .links) i t g r
+      → WellFormed Reachable (setRows (set (net .rows) (place i t) r) (setLabels (set (net .labels) (place i t) g) net))
+  well-formed-cell g r low c =
       let n = net .n in
       let L = net .labels in
       let R = net .rows in
       let K = net .links in
       let L′ = set L (place i t) g in
       let T = ok .tables in
-      let sinks = label-sinks n L (ok .high) (T .labels-length) i t g hi ht low in
-      good-tables net ok L′ (set R (place i t) r)
+      let monotone = label-monotone n L (ok .high) (T .labels-length) i t g hi ht low in
+      well-formed-tables net ok L′ (set R (place i t) r)
       (record {
         labels-length = length-set L (place i t) g ∙ T .labels-length;
         rows-length = length-set R (place i t) r ∙ T .rows-length;
-        cell = set-both (CellOk Made n L′ K) L R g zeroLabel r [] n i t (ok .high) (T .labels-length) (T .rows-length) hi ht c
-            (λ j s hj hs q. cell-sinks n L L′ K R T sinks j s (labelIn L j s) (rowIn R j s) hs (T .cell j s hj hs));
+        cell = set-both (CellOk Reachable n L′ K) L R g zeroLabel r [] n i t (ok .high) (T .labels-length) (T .rows-length) hi ht c
+            (λ j s hj hs q. cell-monotone n L L′ K R T monotone j s (labelIn L j s) (rowIn R j s) hs (T .cell j s hj hs));
       })
-      (air-sinks n L L′ K R T sinks (net .air) (ok .air))
+      (air-monotone n L L′ K R T monotone (net .air) (ok .air))
 
   -- (i, t) gets a row.
-  pub good-row : (r : Row) → CellOk Made (net .n) (net .labels) (net .links) i t (labelIn (net .labels) i t) r
-      → Good Made (setRows (set (net .rows) (place i t) r) net)
-  good-row r c =
+  pub well-formed-row : (r : Row) → CellOk Reachable (net .n) (net .labels) (net .links) i t (labelIn (net .labels) i t) r
+      → WellFormed Reachable (setRows (set (net .rows) (place i t) r) net)
+  well-formed-row r c =
       let L = net .labels in
       let T = ok .tables in
-      good-rows net ok (set (net .rows) (place i t) r)
+      well-formed-rows net ok (set (net .rows) (place i t) r)
       (record {
         labels-length = T .labels-length;
         rows-length = length-set (net .rows) (place i t) r ∙ T .rows-length;
-        cell = set-one (λ j s y. CellOk Made (net .n) L (net .links) j s (labelIn L j s) y) (net .rows) r [] (net .n) i t
+        cell = set-one (λ j s y. CellOk Reachable (net .n) L (net .links) j s (labelIn L j s) y) (net .rows) r [] (net .n) i t
             (ok .high) (T .rows-length) hi ht c (λ j s hj hs q. T .cell j s hj hs);
       })
 
   -- i gets a record for the source t.
-  pub good-record : (r : Record) → RecordOk (net .n) r → Good Made (setRecords (set (net .records) (place i t) r) net)
-  good-record r c =
-      good-records net ok (set (net .records) (place i t) r)
+  pub well-formed-record : (r : Record) → RecordOk (net .n) r → WellFormed Reachable (setRecords (set (net .records) (place i t) r) net)
+  well-formed-record r c =
+      well-formed-records net ok (set (net .records) (place i t) r)
       (record {
         records-length = length-set (net .records) (place i t) r ∙ ok .records .records-length;
         each = set-one (λ j s x. j ≢ s → RecordOk (net .n) x) (net .records) r zeroRecord (net .n) i t
@@ -306,20 +306,20 @@ module _ {Made : Type 0} (net : Network) (ok : Good Made net) (i t : ℕ) (hi : 
       })
 
 -- i seeks t.
-pub good-sought : {Made : Type 0} (net : Network) → Good Made net → (i t : ℕ) → t < net .n → Good Made (setSoughts (set (net .sought) i t) net)
-good-sought net ok i t h =
-    good-soughts net ok (set (net .sought) i t)
+pub well-formed-sought : {Reachable : Type 0} (net : Network) → WellFormed Reachable net → (i t : ℕ) → t < net .n → WellFormed Reachable (setSoughts (set (net .sought) i t) net)
+well-formed-sought net ok i t h =
+    well-formed-soughts net ok (set (net .sought) i t)
     (record {
       sought-length = length-set (net .sought) i t ∙ ok .sought .sought-length;
       each = λ j hj. set-either (λ z. z < net .n) (net .sought) i j t 0 (λ e. h) (ok .sought .each j hj);
     })
 
 -- The links change, and those under the entries of rows and under packets stay up.
-module _ {Made : Type 0} {n : ℕ} {L : List Label} {K : List Bool} (K′ : List Bool) where
-  pub tables-links : (R : List Row) → TablesOk Made n L K R
+module _ {Reachable : Type 0} {n : ℕ} {L : List Label} {K : List Bool} (K′ : List Bool) where
+  pub tables-links : (R : List Row) → TablesOk Reachable n L K R
       → ((i t : ℕ) → i < n → t < n → (e : Successor) → List·Memᴰ e (rowIn R i t) → e .station < n
       → linkIn K i (e .station) ≡ true → linkIn K′ i (e .station) ≡ true)
-      → TablesOk Made n L K′ R
+      → TablesOk Reachable n L K′ R
   tables-links R T up = record {
     labels-length = T .labels-length;
     rows-length = T .rows-length;
@@ -332,21 +332,21 @@ module _ {Made : Type 0} {n : ℕ} {L : List Label} {K : List Bool} (K′ : List
         below = o .below;
         apart = o .apart;
         ranged = o .ranged;
-        route = λ made. let r = o .route made in
-            record { up = up i t hi ht e m (o .below) (r .up); lower = r .lower; kept = r .kept };
+        route = λ reachable. let r = o .route reachable in
+            record { up = up i t hi ht e m (o .below) (r .up); lower = r .lower; advertised = r .advertised };
       };
     };
   }
 
-  pub air-links : (air : List Packet) → AirOk Made n L K air
+  pub air-links : (air : List Packet) → AirOk Reachable n L K air
       → ((p : Packet) → List·Memᴰ p air → p .sender < n → p .receiver < n
       → linkIn K (p .sender) (p .receiver) ≡ true → linkIn K′ (p .sender) (p .receiver) ≡ true)
-      → AirOk Made n L K′ air
+      → AirOk Reachable n L K′ air
   air-links air ok up p m = let o = ok p m in record {
     sender-below = o .sender-below;
     receiver-below = o .receiver-below;
     apart = o .apart;
     body = o .body;
-    underway = λ made. let u = o .underway made in
+    underway = λ reachable. let u = o .underway reachable in
         record { up = up p m (o .sender-below) (o .receiver-below) (u .up); advertised = u .advertised };
   }

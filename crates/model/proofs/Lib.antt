@@ -11,3 +11,4 @@ pub mod Steps
 pub mod Tracing
 pub mod Walking
 pub mod EventLaws
+pub mod HistoryLaws

@@ -9,7 +9,7 @@ use lib.Seq.{getD-set-other}
 use lib.Dec.{eqb}
 use native.Mathlib.Omega.{arith}
 use borrow.Author.Tests.{eqb-true, eqb-false, ne-eqb, not-true}
-use Rattle.base.proofs.Flags.{both, passes, negates}
+use Rattle.base.proofs.Booleans.{both, passes, negates}
 use Rattle.base.proofs.Lists.{set-either}
 use Rattle.model.specs.Memory.{pairPlace, linkIn}
 

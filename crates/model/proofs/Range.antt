@@ -9,7 +9,7 @@ use lib.Dec.{ltb, leb, eqb}
 use borrow.Author.Tests.{ltb-true, leb-true, eqb-true, eqb-false, not-true, lt-ltb, le-leb, eq-eqb, ne-eqb}
 use Rattle.base.specs.Choice.{if_then_else_}
 use Rattle.base.specs.Lists.{allBelow, allIn, isEmpty, distinct}
-use Rattle.base.proofs.Flags.{clash, both, passes, negates, choose}
+use Rattle.base.proofs.Booleans.{clash, both, passes, negates, choose}
 use Rattle.base.proofs.Lists.{all-below, all-below-at, all-in, all-in-at, empty-nil}
 use Rattle.label.specs.declared.Label.{Label}
 use Rattle.label.specs.Label.{inRange}
@@ -17,7 +17,7 @@ use Rattle.model.specs.Memory.{Successor, Row, Record, Body, request, re
 use Rattle.model.specs.Memory.{labelAt, rowAt, recordAt, soughtAt, names, stations, airLimit}
 use Rattle.model.specs.Memory.{successorInRange, rowInRange, recordInRange, ownInRange, cellInRange, placeInRange, stationInRange}
 use Rattle.model.specs.Memory.{headInRange, bodyInRange, packetInRange, airInRange, sizeInRange, memoryInRange}
-use Rattle.model.proofs.Invariant.{SuccessorOk, CellOk, HeadOk, BodyOk, PacketOk, RecordOk, Good}
+use Rattle.model.proofs.Invariant.{SuccessorOk, CellOk, HeadOk, BodyOk, PacketOk, RecordOk, WellFormed}
 
 -- The tables have their sizes, as the arrays that stand for them do.
 pub record Sized (net : Network) : Type 0 where
@@ -27,19 +27,19 @@ pub record Sized (net : Network) : Type 0 where
   pub sought-length : length (net .sought) ≡ 16
 
 -- The invariant between calls: the air is within its limit too.
-pub record Kept (Made : Type 0) (net : Network) : Type 0 where
-  pub good : Good Made net
+pub record Invariant (Reachable : Type 0) (net : Network) : Type 0 where
+  pub formed : WellFormed Reachable net
   pub room : length (net .air) ≤ airLimit
 
 -- Each part passes its test.
 
-module _ {Made : Type 0} {n : ℕ} {L : List Label} {K : List Bool} {i t : ℕ} {l : Label} where
-  successor-passes : (e : Successor) → SuccessorOk Made n L K i t l e → successorInRange n i e ≡ true
+module _ {Reachable : Type 0} {n : ℕ} {L : List Label} {K : List Bool} {i t : ℕ} {l : Label} where
+  successor-passes : (e : Successor) → SuccessorOk Reachable n L K i t l e → successorInRange n i e ≡ true
   unfolding successorInRange names
   successor-passes e o =
       passes (passes (lt-ltb (e .station) n (o .below)) (negates (ne-eqb i (e .station) (λ q. o .apart (sym q))))) (o .ranged)
 
-  row-passes : (r : Row) → CellOk Made n L K i t l r → rowInRange n i r ≡ true
+  row-passes : (r : Row) → CellOk Reachable n L K i t l r → rowInRange n i r ≡ true
   unfolding rowInRange
   row-passes r c =
       passes (passes (le-leb (length r) 4 (c .short)) (c .once)) (all-in (successorInRange n i) r (λ e m. successor-passes e (c .each e m)))
@@ -53,8 +53,8 @@ own-passes : (l : Label) (r : Row) → (l .m ≡ 0) × (l .d ≡ 1) × (r ≡ []
 unfolding ownInRange isEmpty
 own-passes l r o = passes (passes (eq-eqb (l .m) 0 (o .0)) (eq-eqb (l .d) 1 (o .1))) (ap isEmpty (o .2))
 
-cell-passes : {Made : Type 0} {n : ℕ} {L : List Label} {K : List Bool} (i t : ℕ) (l : Label) (r : Row) (k : Record)
-    → CellOk Made n L K i t l r → (i ≢ t → RecordOk n k) → cellInRange n i t l r k ≡ true
+cell-passes : {Reachable : Type 0} {n : ℕ} {L : List Label} {K : List Bool} (i t : ℕ) (l : Label) (r : Row) (k : Record)
+    → CellOk Reachable n L K i t l r → (i ≢ t → RecordOk n k) → cellInRange n i t l r k ≡ true
 unfolding cellInRange
 cell-passes i t l r k c o =
     passes (passes (c .ranged) (row-passes r c))
@@ -72,17 +72,17 @@ body-passes n (reply v) o = head-passes n (v .source) (v .number) (v .destinatio
 body-passes n (error mask) o = lt-ltb mask (2 ^ n) o
 body-passes n (other kind) o = absurd o
 
-packet-passes : {Made : Type 0} {n : ℕ} {L : List Label} {K : List Bool} (p : Packet) → PacketOk Made n L K p → packetInRange n p ≡ true
+packet-passes : {Reachable : Type 0} {n : ℕ} {L : List Label} {K : List Bool} (p : Packet) → PacketOk Reachable n L K p → packetInRange n p ≡ true
 unfolding packetInRange
 packet-passes {n = n} p o =
     passes (passes (passes (lt-ltb (p .sender) n (o .sender-below)) (lt-ltb (p .receiver) n (o .receiver-below)))
     (negates (ne-eqb (p .sender) (p .receiver) (o .apart)))) (body-passes n (p .body) (o .body))
 
-pub kept-in-range : {Made : Type 0} (net : Network) → Kept Made net → memoryInRange net ≡ true
+pub invariant-in-range : {Reachable : Type 0} (net : Network) → Invariant Reachable net → memoryInRange net ≡ true
 unfolding memoryInRange sizeInRange stationInRange airInRange
-kept-in-range net k =
+invariant-in-range net k =
     let n = net .n in
-    let ok = k .good in
+    let ok = k .formed in
     passes
     (passes (passes (le-leb 2 n (ok .low)) (le-leb n 16 (ok .high)))
     (all-below n (stationInRange net) (λ i hi. passes (lt-ltb (soughtAt net i) n (ok .sought .each i hi))
@@ -101,7 +101,7 @@ successor-tells {n} {i = i} e h =
       below = ltb-true (e .station) n (x .0);
       apart = λ q. eqb-false i (e .station) (not-true (eqb i (e .station)) (x .1)) (sym q);
       ranged = w .1;
-      route = λ made. absurd made;
+      route = λ reachable. absurd reachable;
     }
 
 own-tells : (l : Label) (r : Row) → ownInRange l r ≡ true → (l .m ≡ 0) × (l .d ≡ 1) × (r ≡ [])
@@ -168,7 +168,7 @@ packet-tells {n} p h =
       receiver-below = ltb-true (p .receiver) n (y .1);
       apart = eqb-false (p .sender) (p .receiver) (not-true (eqb (p .sender) (p .receiver)) (x .1));
       body = body-tells n (p .body) (w .1);
-      underway = λ made. absurd made;
+      underway = λ reachable. absurd reachable;
     }
 
 module _ (net : Network) (h : memoryInRange net ≡ true) where
@@ -193,9 +193,9 @@ module _ (net : Network) (h : memoryInRange net ≡ true) where
   cell-passed : (i t : ℕ) → i < net .n → t < net .n → placeInRange net i t ≡ true
   cell-passed i t hi ht = all-below-at (net .n) (placeInRange net i) (station-parts i hi .1) t ht
 
-  pub in-range-kept : Sized net → Kept ⊥ net
-  in-range-kept s = record {
-    good = record {
+  pub in-range-invariant : Sized net → Invariant ⊥ net
+  in-range-invariant s = record {
+    formed = record {
       low = leb-true 2 (net .n) (memory-parts .0);
       high = leb-true (net .n) 16 (memory-parts .1);
       tables = record {

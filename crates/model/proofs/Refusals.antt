@@ -8,23 +8,17 @@ use lib.ListN.{length, length-map, length-append}
 use lib.Dec.{leb, eqb}
 use native.Mathlib.Omega.{arith}
 use borrow.Author.Tests.{lt-ltb, le-ltb, leb-true, leb-false, eqb-false, not-false}
-use Rattle.base.proofs.Flags.{both, neither, choose}
+use Rattle.base.proofs.Booleans.{both, neither, choose}
 use Rattle.base.proofs.Loops.{below-length}
-use Rattle.model.specs.Memory.{Packet, Network, linkUp, numberAt, isActive, packetAt, setLink, setRow, setActive, setAir}
+use Rattle.base.specs.Numbers.{maxU32}
+use Rattle.base.specs.Results.{refused, accepted, refuse_when_otherwise_}
+use Rattle.base.proofs.Results.{refuse-holds, refuse-passes}
+use Rattle.model.specs.Memory.{Packet, Network, linkUp, requestNumberAt, isActive, packetAt, setLink, setRow, setActive, setAir}
 use Rattle.model.specs.Memory.{fresh, airLimit, sizeInRange, memoryInRange}
 use Rattle.model.specs.Calls.{Call, Open, Up, Down, Solicit, GiveUp, Expire, Deliver, Lose, Duplicate}
-use Rattle.model.specs.Calls.{effect, Result, refused, accepted, refuse_when_otherwise_, limited, notStation, notPair, notPacket}
+use Rattle.model.specs.Calls.{effect, limited, notStation, notPair, notPacket}
 use Rattle.model.specs.Calls.{send, sending, neighbours, copies, errors, down, solicit, removePacket, deliver, notOpening, opening, step, run}
 use Rattle.model.specs.Walks.{Reached}
-
-module _ (number : ℕ) (case : Bool) (rest : Result) where
-  pub refuse-holds : case ≡ true → refuse number when case otherwise rest ≡ refused number
-  unfolding refuse_when_otherwise_
-  refuse-holds e = rw e
-
-  pub refuse-passes : case ≡ false → refuse number when case otherwise rest ≡ rest
-  unfolding refuse_when_otherwise_
-  refuse-passes e = rw e
 
 -- Open.
 module _ (n start : ℕ) where
@@ -136,11 +130,11 @@ module _ (net : Network) (r : memoryInRange net ≡ true) (a b : ℕ) where
   unfolding step refuse_when_otherwise_
   solicit-4 h k = simp (r, h, k)
 
-  pub solicit-8 : notPair net a b ≡ false → isActive net a ≡ false → leb 4_294_967_295 (numberAt net a) ≡ true → step (Solicit a b) net ≡ refused 8
+  pub solicit-8 : notPair net a b ≡ false → isActive net a ≡ false → leb maxU32 (requestNumberAt net a) ≡ true → step (Solicit a b) net ≡ refused 8
   unfolding step refuse_when_otherwise_
   solicit-8 h k l = simp (r, h, k, l)
 
-  pub solicit-limited : notPair net a b ≡ false → isActive net a ≡ false → leb 4_294_967_295 (numberAt net a) ≡ false
+  pub solicit-limited : notPair net a b ≡ false → isActive net a ≡ false → leb maxU32 (requestNumberAt net a) ≡ false
       → step (Solicit a b) net ≡ limited (solicit a b net)
   unfolding step refuse_when_otherwise_
   solicit-limited h k l = simp (r, h, k, l)

@@ -13,7 +13,7 @@ use native.Mathlib.Omega.{arith}
 use borrow.Author.Tests.{lt-ltb, le-ltb, ltb-true, eqb-true, eqb-false, not-true}
 use Rattle.base.specs.Choice.{if_then_else_}
 use Rattle.base.specs.Lists.{allBelow, someIn, keep, indexOf, distinct}
-use Rattle.base.proofs.Flags.{choose, cases, Against, less, equal, more, against}
+use Rattle.base.proofs.Booleans.{choose, cases, Trichotomy, less, equal, more, trichotomy}
 use Rattle.base.proofs.Lists.{all-below-at, none-in-at, keep-mem, mem-tail, length-tail, set-either}
 use Rattle.base.proofs.Lists.{distinct-cons, distinct-first, distinct-rest, distinct-tail, distinct-last}
 use Rattle.label.specs.declared.Label.{Label}
@@ -50,11 +50,11 @@ keep-distinct f [] d = d
 keep-distinct f (e ∷ r) d =
     let h = keep-distinct f r (distinct-rest (e .station) (stations r) d) in
     choose (λ z. distinct (stations z) ≡ true) (f e)
-    (λ q. distinct-cons (e .station) (stations (keep f r)) (λ m. distinct-first (e .station) (stations r) d (kept m)) h)
+    (λ q. distinct-cons (e .station) (stations (keep f r)) (λ m. distinct-first (e .station) (stations r) d (stays m)) h)
     (λ q. h)
   where
-    kept : {x : ℕ} → List·Memᴰ x (stations (keep f r)) → List·Memᴰ x (stations r)
-    kept {x} m =
+    stays : {x : ℕ} → List·Memᴰ x (stations (keep f r)) → List·Memᴰ x (stations r)
+    stays {x} m =
         let (y, k, p) = Memᴰ·of-map (λ e. e .station) (keep f r) m in
         subst (λ z. List·Memᴰ z (stations r)) p (station-mem r (keep-mem f r k .0))
 
@@ -186,7 +186,7 @@ module _ (masked : ℕ → Bool) (leaves : Successor → Bool) (i : ℕ) (rows :
       → rowIn (takeOut masked leaves i c rows) i t ≡ without leaves (rowIn rows i t)
   unfolding takeOut
   takeOut-masked zero t hi hc len h e = absurd (omega arith)
-  takeOut-masked (suc c) t hi hc len h e = go (against t c) (λ l. takeOut-masked c t hi (omega arith) len l e)
+  takeOut-masked (suc c) t hi hc len h e = go (trichotomy t c) (λ l. takeOut-masked c t hi (omega arith) len l e)
     where
       before : List Row
       before = takeOut masked leaves i c rows
@@ -194,7 +194,7 @@ module _ (masked : ℕ → Bool) (leaves : Successor → Bool) (i : ℕ) (rows :
       Goal : List Row → Type 0
       Goal z = rowIn z i t ≡ without leaves (rowIn rows i t)
 
-      go : Against t c → (t < c → Goal before) → Goal (if masked c then set before (place i c) (without leaves (rowIn rows i c)) else before)
+      go : Trichotomy t c → (t < c → Goal before) → Goal (if masked c then set before (place i c) (without leaves (rowIn rows i c)) else before)
       go (less l) ih =
           choose Goal (masked c) (λ q. getD-set-other before (place i c) (place i t) _ [] (λ p. omega arith) ∙ ih l) (λ q. ih l)
       go (equal q) ih =

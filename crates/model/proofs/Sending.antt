@@ -8,7 +8,7 @@ use lib.ListN.{set, take, drop}
 use lib.Dec.{eqb}
 use native.Mathlib.Omega.{arith}
 use borrow.Author.Tests.{eq-eqb, not-true}
-use Rattle.base.proofs.Flags.{clash, neither, passes, choose, cases}
+use Rattle.base.proofs.Booleans.{clash, neither, passes, choose, cases}
 use Rattle.base.proofs.Lists.{below-mem, keep-mem, mem-take, mem-drop}
 use Rattle.label.specs.declared.Label.{Label}
 use Rattle.model.specs.Memory.{Successor, Row, Body, error, Packet, Network, rowIn, pairPlace, linkIn, linkUp, setRows, setLinks, setAir, names, without}
@@ -16,72 +16,72 @@ use Rattle.model.specs.Calls.{packet, send, sending, neighbours, copies,
 use Rattle.model.specs.Calls.{between, everyDestination, lost, parted, down, removePacket}
 use Rattle.model.proofs.Rows.{without-mem, without-names, takeOut-length, takeOut-either, takeOut-masked, emptied-below}
 use Rattle.model.proofs.Links.{link-apart, link-set-up, link-other}
-use Rattle.model.proofs.Invariant.{BodyOk, Advertised, PacketOk, AirOk, CellOk, TablesOk, Good}
-use Rattle.model.proofs.Invariant.{good-links, good-air, cell-keep, tables-links, air-links}
+use Rattle.model.proofs.Invariant.{BodyOk, Advertised, PacketOk, AirOk, CellOk, TablesOk, WellFormed}
+use Rattle.model.proofs.Invariant.{well-formed-links, well-formed-air, cell-keep, tables-links, air-links}
 
 -- Packets in the air.
-module _ {Made : Type 0} {n : ℕ} {L : List Label} {K : List Bool} where
-  air-append : (l m : List Packet) → AirOk Made n L K l → AirOk Made n L K m → AirOk Made n L K (l ++ m)
+module _ {Reachable : Type 0} {n : ℕ} {L : List Label} {K : List Bool} where
+  air-append : (l m : List Packet) → AirOk Reachable n L K l → AirOk Reachable n L K m → AirOk Reachable n L K (l ++ m)
   air-append l m ok ok′ p k = cases (List·Memᴰ·append-cases l k) (ok p) (ok′ p)
 
-  pub air-one : (p : Packet) → PacketOk Made n L K p → AirOk Made n L K (p ∷ [])
-  air-one p ok x k = subst (PacketOk Made n L K) (sym (List·Memᴰ·eq-of-singleton k)) ok
+  pub air-one : (p : Packet) → PacketOk Reachable n L K p → AirOk Reachable n L K (p ∷ [])
+  air-one p ok x k = subst (PacketOk Reachable n L K) (sym (List·Memᴰ·eq-of-singleton k)) ok
 
-module _ {Made : Type 0} (net : Network) (ok : Good Made net) where
-  pub good-send : (l : List Packet) → AirOk Made (net .n) (net .labels) (net .links) l → Good Made (send l net)
+module _ {Reachable : Type 0} (net : Network) (ok : WellFormed Reachable net) where
+  pub well-formed-send : (l : List Packet) → AirOk Reachable (net .n) (net .labels) (net .links) l → WellFormed Reachable (send l net)
   unfolding send
-  good-send l c = good-air net ok (net .air ++ l) (air-append (net .air) l (ok .air) c)
+  well-formed-send l c = well-formed-air net ok (net .air ++ l) (air-append (net .air) l (ok .air) c)
 
-  pub good-sending : (k : ℕ) (l : List Packet) → AirOk Made (net .n) (net .labels) (net .links) l → Good Made (sending k l net .net)
+  pub well-formed-sending : (k : ℕ) (l : List Packet) → AirOk Reachable (net .n) (net .labels) (net .links) l → WellFormed Reachable (sending k l net .net)
   unfolding sending
-  good-sending k l c = good-send l c
+  well-formed-sending k l c = well-formed-send l c
 
-  pub good-remove : (k : ℕ) → Good Made (removePacket k net)
+  pub well-formed-remove : (k : ℕ) → WellFormed Reachable (removePacket k net)
   unfolding removePacket
-  good-remove k =
-      good-air net ok (take k (net .air) ++ drop (suc k) (net .air))
+  well-formed-remove k =
+      well-formed-air net ok (take k (net .air) ++ drop (suc k) (net .air))
       (air-append (take k (net .air)) (drop (suc k) (net .air))
       (λ p m. ok .air p (mem-take k (net .air) m)) (λ p m. ok .air p (mem-drop (suc k) (net .air) m)))
 
   -- A link set up.
-  pub good-up : (a b : ℕ) → Good Made (setLinks (set (net .links) (pairPlace a b) true) net)
-  good-up a b =
+  pub well-formed-up : (a b : ℕ) → WellFormed Reachable (setLinks (set (net .links) (pairPlace a b) true) net)
+  well-formed-up a b =
       let K = set (net .links) (pairPlace a b) true in
-      good-links net ok K
+      well-formed-links net ok K
       (tables-links K (net .rows) (ok .tables) (λ i t hi ht e m he up. link-set-up (net .links) i (e .station) (pairPlace a b) up))
       (air-links K (net .air) (ok .air) (λ p m hs hr up. link-set-up (net .links) (p .sender) (p .receiver) (pairPlace a b) up))
 
 -- A broadcast by a of a body that is in range, and whose label, in a reply, is at least a's.
-module _ {Made : Type 0} (net : Network) (a : ℕ) (ha : a < net .n) where
-  pub copies-ok : (b : Body) → BodyOk (net .n) b → Advertised (net .labels) a b → AirOk Made (net .n) (net .labels) (net .links) (copies net a b)
+module _ {Reachable : Type 0} (net : Network) (a : ℕ) (ha : a < net .n) where
+  pub copies-ok : (b : Body) → BodyOk (net .n) b → Advertised (net .labels) a b → AirOk Reachable (net .n) (net .labels) (net .links) (copies net a b)
   unfolding copies neighbours
   copies-ok b ok advertised p m =
       let (x, k, e) = Memᴰ·of-map (λ x. packet a x b) (neighbours net a) m in
-      subst (PacketOk Made (net .n) (net .labels) (net .links)) e (one x (below-mem (net .n) (linkUp net a) k))
+      subst (PacketOk Reachable (net .n) (net .labels) (net .links)) e (one x (below-mem (net .n) (linkUp net a) k))
     where
-      one : (x : ℕ) → (x < net .n) × (linkUp net a x ≡ true) → PacketOk Made (net .n) (net .labels) (net .links) (packet a x b)
+      one : (x : ℕ) → (x < net .n) × (linkUp net a x ≡ true) → PacketOk Reachable (net .n) (net .labels) (net .links) (packet a x b)
       one x h = record {
         sender-below = ha;
         receiver-below = h .0;
         apart = link-apart (net .links) a x (h .1);
         body = ok;
-        underway = λ made. record { up = h .1; advertised = advertised };
+        underway = λ reachable. record { up = h .1; advertised = advertised };
       }
 
-  pub errors-ok : (mask : ℕ) → mask < 2 ^ net .n → AirOk Made (net .n) (net .labels) (net .links) (errors net a mask)
+  pub errors-ok : (mask : ℕ) → mask < 2 ^ net .n → AirOk Reachable (net .n) (net .labels) (net .links) (errors net a mask)
   unfolding errors
   errors-ok mask h =
-      choose (AirOk Made (net .n) (net .labels) (net .links)) (eqb mask 0)
+      choose (AirOk Reachable (net .n) (net .labels) (net .links)) (eqb mask 0)
       (λ e p m. absurd (List·Memᴰ·not-nil m)) (λ e. copies-ok (error mask) h tt)
 
 -- Entries taken out of rows.
-pub tables-takeOut : {Made : Type 0} {n : ℕ} {L : List Label} {K : List Bool} (masked : ℕ → Bool) (leaves : Successor → Bool) (i c : ℕ) (R : List Row)
-    → TablesOk Made n L K R → TablesOk Made n L K (takeOut masked leaves i c R)
+pub tables-takeOut : {Reachable : Type 0} {n : ℕ} {L : List Label} {K : List Bool} (masked : ℕ → Bool) (leaves : Successor → Bool) (i c : ℕ) (R : List Row)
+    → TablesOk Reachable n L K R → TablesOk Reachable n L K (takeOut masked leaves i c R)
 unfolding without
-tables-takeOut {Made} {n} {L} {K} masked leaves i c R T = record {
+tables-takeOut {Reachable} {n} {L} {K} masked leaves i c R T = record {
   labels-length = T .labels-length;
   rows-length = takeOut-length masked leaves i R c ∙ T .rows-length;
-  cell = λ j t hj ht. takeOut-either masked leaves i R (CellOk Made n L K j t _) c j t (T .cell j t hj ht) (cell-keep (T .cell j t hj ht) _);
+  cell = λ j t hj ht. takeOut-either masked leaves i R (CellOk Reachable n L K j t _) c j t (T .cell j t hj ht) (cell-keep (T .cell j t hj ht) _);
 }
 
 -- Down.
@@ -97,7 +97,7 @@ not-between a b p h =
       (λ e f. clash (passes (eq-eqb (p .sender) b e) (eq-eqb (p .receiver) a f)) (w .1)),
     )
 
-module _ {Made : Type 0} (a b : ℕ) (net : Network) (ok : Good Made net) (ha : a < net .n) (hb : b < net .n) where
+module _ {Reachable : Type 0} (a b : ℕ) (net : Network) (ok : WellFormed Reachable net) (ha : a < net .n) (hb : b < net .n) where
   -- The links with that of a and b down, the rows of a without b, and then those of b without a.
   K′ : List Bool
   K′ = set (net .links) (pairPlace a b) false
@@ -114,11 +114,11 @@ module _ {Made : Type 0} (a b : ℕ) (net : Network) (ok : Good Made net) (ha : 
       let high = ok .high in
       link-other (net .links) false a b c d (omega arith) (omega arith) (omega arith) (omega arith) h k ∙ up
 
-  T₁ : TablesOk Made (net .n) (net .labels) (net .links) R₁
+  T₁ : TablesOk Reachable (net .n) (net .labels) (net .links) R₁
   unfolding R₁
   T₁ = tables-takeOut everyDestination (names b) a (net .n) (net .rows) (ok .tables)
 
-  T₂ : TablesOk Made (net .n) (net .labels) (net .links) R₂
+  T₂ : TablesOk Reachable (net .n) (net .labels) (net .links) R₂
   unfolding R₂
   T₂ = tables-takeOut everyDestination (names a) b (net .n) R₁ T₁
 
@@ -143,9 +143,9 @@ module _ {Made : Type 0} (a b : ℕ) (net : Network) (ok : Good Made net) (ha : 
       let row = takeOut-masked everyDestination (names a) b R₁ (net .n) t (omega arith) high (T₁ .rows-length) ht refl in
       without-names a (rowIn R₁ b t) (subst (List·Memᴰ e) row m)
 
-  pub good-parted : Good Made (parted a b net)
+  pub well-formed-parted : WellFormed Reachable (parted a b net)
   unfolding parted K′ R₁ R₂ setRows setAir setLinks
-  good-parted = record {
+  well-formed-parted = record {
     low = ok .low;
     high = ok .high;
     tables = tables-links K′ R₂ T₂ (λ i t hi ht e m he up. still-up i (e .station) hi he
@@ -158,11 +158,11 @@ module _ {Made : Type 0} (a b : ℕ) (net : Network) (ok : Good Made net) (ha : 
         still-up (p .sender) (p .receiver) hs hr (w .0) (w .1) up);
   }
 
-  pub good-down : Good Made (down a b net .net)
+  pub well-formed-down : WellFormed Reachable (down a b net .net)
   unfolding down parted lost setRows setAir setLinks
-  good-down =
+  well-formed-down =
       let cut = parted a b net in
-      good-sending cut good-parted 0 (errors cut a (lost net a b) ++ errors cut b (lost net b a))
+      well-formed-sending cut well-formed-parted 0 (errors cut a (lost net a b) ++ errors cut b (lost net b a))
       (air-append (errors cut a (lost net a b)) (errors cut b (lost net b a))
       (errors-ok cut a ha (lost net a b) (emptied-below everyDestination (names b) a (net .n) (net .rows)))
       (errors-ok cut b hb (lost net b a) (emptied-below everyDestination (names a) b (net .n) (net .rows))))

@@ -6,132 +6,125 @@ use mathlib.Core.List.{List, [], _∷_}
 use lib.ListN.{length, set, length-append, length-take, length-drop}
 use native.Mathlib.Omega.{arith}
 use borrow.Author.Tests.{ltb-false, not-false}
-use Rattle.base.proofs.Flags.{choose}
+use Rattle.base.proofs.Booleans.{choose}
 use Rattle.base.proofs.Lists.{mem-at}
+use Rattle.base.specs.Results.{Result, accepted, refuse_when_otherwise_}
+use Rattle.base.proofs.Results.{not-turned-down, same-accepted}
 use Rattle.model.specs.Memory.{Network, zeroPacket, setLink, setRow, setActive}
 use Rattle.model.specs.Memory.{setRows, setLinks, setNumbers, setSoughts, setActives, setAir}
 use Rattle.model.specs.Memory.{fresh, memoryInRange}
 use Rattle.model.specs.Calls.{Call, Open, Up, Down, Solicit, GiveUp, Expire, Deliver, Lose, Duplicate}
-use Rattle.model.specs.Calls.{Effect, effect, Result, refused, accepted, after, refuse_when_otherwise_, limited, notPair, notPacket}
+use Rattle.model.specs.Calls.{Effect, effect, after, limited, notPair, notPacket}
 use Rattle.model.specs.Calls.{solicit, removePacket, notOpening, opening, step, run}
-use Rattle.model.proofs.Invariant.{Good, good-numbers, good-actives, good-row, good-sought, cell-empty}
-use Rattle.model.proofs.Range.{Sized, Kept, kept-in-range, in-range-kept}
-use Rattle.model.proofs.Fresh.{fresh-kept}
+use Rattle.model.proofs.Invariant.{WellFormed, well-formed-numbers, well-formed-actives, well-formed-row, well-formed-sought, cell-empty}
+use Rattle.model.proofs.Range.{Sized, Invariant, invariant-in-range, in-range-invariant}
+use Rattle.model.proofs.Fresh.{fresh-invariant}
 use Rattle.model.proofs.Refusals.{opening-tells, pair-tells, packet-tells}
-use Rattle.model.proofs.Sending.{air-one, good-send, good-sending, copies-ok, good-remove, good-up, good-down}
-use Rattle.model.proofs.Delivery.{good-deliver}
+use Rattle.model.proofs.Sending.{air-one, well-formed-send, well-formed-sending, copies-ok, well-formed-remove, well-formed-up, well-formed-down}
+use Rattle.model.proofs.Delivery.{well-formed-deliver}
 
 -- What the calls that send nothing do.
-module _ {Made : Type 0} (net : Network) (kept : Kept Made net) where
-  kept-up : (a b : ℕ) → Kept Made (setLink a b true net)
+module _ {Reachable : Type 0} (net : Network) (inv : Invariant Reachable net) where
+  invariant-up : (a b : ℕ) → Invariant Reachable (setLink a b true net)
   unfolding setLinks
-  kept-up a b = record { good = good-up net (kept .good) a b; room = kept .room }
+  invariant-up a b = record { formed = well-formed-up net (inv .formed) a b; room = inv .room }
 
-  kept-passive : (a : ℕ) → Kept Made (setActive a false net)
+  invariant-passive : (a : ℕ) → Invariant Reachable (setActive a false net)
   unfolding setActives
-  kept-passive a = record { good = good-actives net (kept .good) (set (net .active) a false); room = kept .room }
+  invariant-passive a = record { formed = well-formed-actives net (inv .formed) (set (net .active) a false); room = inv .room }
 
-  kept-expire : (a t : ℕ) → a < net .n → t < net .n → Kept Made (setRow a t [] net)
+  invariant-expire : (a t : ℕ) → a < net .n → t < net .n → Invariant Reachable (setRow a t [] net)
   unfolding setRows
-  kept-expire a t ha ht = record { good = good-row net (kept .good) a t ha ht [] (cell-empty (kept .good .tables .cell a t ha ht)); room = kept .room }
+  invariant-expire a t ha ht = record { formed = well-formed-row net (inv .formed) a t ha ht [] (cell-empty (inv .formed .tables .cell a t ha ht)); room = inv .room }
 
   remove-length : (k : ℕ) → length (removePacket k net .air) ≤ length (net .air)
   unfolding removePacket setAir
   remove-length k = simp (length-append, length-take, length-drop) (omega arith)
 
-  kept-remove : (k : ℕ) → Kept Made (removePacket k net)
-  kept-remove k = record { good = good-remove net (kept .good) k; room = omega (arith, remove-length k, kept .room) }
+  invariant-remove : (k : ℕ) → Invariant Reachable (removePacket k net)
+  invariant-remove k = record { formed = well-formed-remove net (inv .formed) k; room = omega (arith, remove-length k, inv .room) }
 
-good-solicit : {Made : Type 0} (a t : ℕ) (net : Network) → Good Made net → a < net .n → t < net .n → Good Made (solicit a t net .net)
+well-formed-solicit : {Reachable : Type 0} (a t : ℕ) (net : Network) → WellFormed Reachable net → a < net .n → t < net .n → WellFormed Reachable (solicit a t net .net)
 unfolding solicit setActives setSoughts setNumbers
-good-solicit a t net ok ha ht =
-    good-sending _ (good-actives _ (good-sought _ (good-numbers net ok _) a t ht) _) 0 _
+well-formed-solicit a t net ok ha ht =
+    well-formed-sending _ (well-formed-actives _ (well-formed-sought _ (well-formed-numbers net ok _) a t ht) _) 0 _
     (copies-ok net a ha _ (record { source-below = ha; numbered = omega arith; destination-below = ht; ranged = ok .tables .cell a t ha ht .ranged }) tt)
 
-opening-kept : {Made : Type 0} (n start : ℕ) → notOpening n start ≡ false → Kept Made (fresh n start)
-opening-kept n start e = let w = opening-tells n start e in fresh-kept n start (w .0) (w .1) (w .2)
+opening-invariant : {Reachable : Type 0} (n start : ℕ) → notOpening n start ≡ false → Invariant Reachable (fresh n start)
+opening-invariant n start e = let w = opening-tells n start e in fresh-invariant n start (w .0) (w .1) (w .2)
 
 -- A call turned down leaves the network; the tests that it passed tell what the rest may use.
-module _ {Made : Type 0} (net : Network) (kept : Kept Made net) where
-  kept-refuse : (k : ℕ) (t : Bool) (r : Result) → (t ≡ false → Kept Made (after net r)) → Kept Made (after net (refuse k when t otherwise r))
+module _ {Reachable : Type 0} (net : Network) (inv : Invariant Reachable net) where
+  invariant-refuse : (k : ℕ) (t : Bool) (r : Result Effect) → (t ≡ false → Invariant Reachable (after net r)) → Invariant Reachable (after net (refuse k when t otherwise r))
   unfolding refuse_when_otherwise_ after
-  kept-refuse k t r h = choose (λ z. Kept Made (after net z)) t (λ e. kept) h
+  invariant-refuse k t r h = choose (λ z. Invariant Reachable (after net z)) t (λ e. inv) h
 
-  kept-accept : (e : Effect) → Kept Made (e .net) → Kept Made (after net (accepted e))
+  invariant-accept : (e : Effect) → Invariant Reachable (e .net) → Invariant Reachable (after net (accepted e))
   unfolding after
-  kept-accept e h = h
+  invariant-accept e h = h
 
-  kept-limited : (e : Effect) → Good Made (e .net) → Kept Made (after net (limited e))
+  invariant-limited : (e : Effect) → WellFormed Reachable (e .net) → Invariant Reachable (after net (limited e))
   unfolding limited
-  kept-limited e ok = kept-refuse 7 _ _ (λ q. kept-accept e (record { good = ok; room = omega (arith, ltb-false _ (length (e .net .air)) q) }))
+  invariant-limited e ok = invariant-refuse 7 _ _ (λ q. invariant-accept e (record { formed = ok; room = omega (arith, ltb-false _ (length (e .net .air)) q) }))
 
   -- Tests 1 and 2, and tests 1 and 6.
-  kept-pair : (a b : ℕ) (r : Result) → (a < net .n → b < net .n → Kept Made (after net r))
-      → Kept Made (after net (refuse 1 when not (memoryInRange net) otherwise refuse 2 when notPair net a b otherwise r))
-  kept-pair a b r h = kept-refuse 1 _ _ (λ e. kept-refuse 2 _ r (λ q. let w = pair-tells net a b q in h (w .0) (w .1)))
+  invariant-pair : (a b : ℕ) (r : Result Effect) → (a < net .n → b < net .n → Invariant Reachable (after net r))
+      → Invariant Reachable (after net (refuse 1 when not (memoryInRange net) otherwise refuse 2 when notPair net a b otherwise r))
+  invariant-pair a b r h = invariant-refuse 1 _ _ (λ e. invariant-refuse 2 _ r (λ q. let w = pair-tells net a b q in h (w .0) (w .1)))
 
-  kept-packet : (k : ℕ) (r : Result) → (k < length (net .air) → Kept Made (after net r))
-      → Kept Made (after net (refuse 1 when not (memoryInRange net) otherwise refuse 6 when notPacket net k otherwise r))
-  kept-packet k r h = kept-refuse 1 _ _ (λ e. kept-refuse 6 _ r (λ q. h (packet-tells net k q)))
+  invariant-packet : (k : ℕ) (r : Result Effect) → (k < length (net .air) → Invariant Reachable (after net r))
+      → Invariant Reachable (after net (refuse 1 when not (memoryInRange net) otherwise refuse 6 when notPacket net k otherwise r))
+  invariant-packet k r h = invariant-refuse 1 _ _ (λ e. invariant-refuse 6 _ r (λ q. h (packet-tells net k q)))
 
-module _ {Made : Type 0} (net : Network) (kept : Kept Made net) where
-  pub kept-step : (c : Call) → Kept Made (after net (step c net))
+module _ {Reachable : Type 0} (net : Network) (inv : Invariant Reachable net) where
+  pub invariant-step : (c : Call) → Invariant Reachable (after net (step c net))
   unfolding step opening
-  kept-step (Open n start) = kept-refuse net kept 1 _ _ (λ e. kept-accept net kept _ (opening-kept n start e))
-  kept-step (Up a b) = kept-pair net kept a b _ (λ ha hb. kept-refuse net kept 3 _ _ (λ e. kept-accept net kept _ (kept-up _ kept a b)))
-  kept-step (Down a b) =
-      kept-pair net kept a b _ (λ ha hb. kept-refuse net kept 3 _ _ (λ e. kept-limited net kept _ (good-down a b _ (kept .good) ha hb)))
-  kept-step (Solicit a t) =
-      kept-pair net kept a t _ (λ ha ht. kept-refuse net kept 4 _ _ (λ e. kept-refuse net kept 8 _ _ (λ q.
-      kept-limited net kept _ (good-solicit a t _ (kept .good) ha ht))))
-  kept-step (GiveUp a) =
-      kept-refuse net kept 1 _ _ (λ e. kept-refuse net kept 2 _ _ (λ p. kept-refuse net kept 5 _ _ (λ q.
-      kept-accept net kept _ (kept-passive _ kept a))))
-  kept-step (Expire a t) = kept-pair net kept a t _ (λ ha ht. kept-accept net kept _ (kept-expire _ kept a t ha ht))
-  kept-step (Deliver k) = kept-packet net kept k _ (λ h. kept-limited net kept _ (good-deliver k _ (kept .good) h))
-  kept-step (Lose k) = kept-packet net kept k _ (λ h. kept-accept net kept _ (kept-remove _ kept k))
-  kept-step (Duplicate k) =
-      kept-packet net kept k _ (λ h. kept-limited net kept _
-      (good-send _ (kept .good) _ (air-one _ (kept .good .air _ (mem-at (net .air) k zeroPacket h)))))
+  invariant-step (Open n start) = invariant-refuse net inv 1 _ _ (λ e. invariant-accept net inv _ (opening-invariant n start e))
+  invariant-step (Up a b) = invariant-pair net inv a b _ (λ ha hb. invariant-refuse net inv 3 _ _ (λ e. invariant-accept net inv _ (invariant-up _ inv a b)))
+  invariant-step (Down a b) =
+      invariant-pair net inv a b _ (λ ha hb. invariant-refuse net inv 3 _ _ (λ e. invariant-limited net inv _ (well-formed-down a b _ (inv .formed) ha hb)))
+  invariant-step (Solicit a t) =
+      invariant-pair net inv a t _ (λ ha ht. invariant-refuse net inv 4 _ _ (λ e. invariant-refuse net inv 8 _ _ (λ q.
+      invariant-limited net inv _ (well-formed-solicit a t _ (inv .formed) ha ht))))
+  invariant-step (GiveUp a) =
+      invariant-refuse net inv 1 _ _ (λ e. invariant-refuse net inv 2 _ _ (λ p. invariant-refuse net inv 5 _ _ (λ q.
+      invariant-accept net inv _ (invariant-passive _ inv a))))
+  invariant-step (Expire a t) = invariant-pair net inv a t _ (λ ha ht. invariant-accept net inv _ (invariant-expire _ inv a t ha ht))
+  invariant-step (Deliver k) = invariant-packet net inv k _ (λ h. invariant-limited net inv _ (well-formed-deliver k _ (inv .formed) h))
+  invariant-step (Lose k) = invariant-packet net inv k _ (λ h. invariant-accept net inv _ (invariant-remove _ inv k))
+  invariant-step (Duplicate k) =
+      invariant-packet net inv k _ (λ h. invariant-limited net inv _
+      (well-formed-send _ (inv .formed) _ (air-one _ (inv .formed .air _ (mem-at (net .air) k zeroPacket h)))))
 
-pub kept-run : {Made : Type 0} (calls : List Call) (net : Network) → Kept Made net → Kept Made (run calls net)
+pub invariant-run : {Reachable : Type 0} (calls : List Call) (net : Network) → Invariant Reachable net → Invariant Reachable (run calls net)
 unfolding run
-kept-run [] net kept = kept
-kept-run (c ∷ calls) net kept = kept-run calls (after net (step c net)) (kept-step net kept c)
+invariant-run [] net inv = inv
+invariant-run (c ∷ calls) net inv = invariant-run calls (after net (step c net)) (invariant-step net inv c)
 
--- A call that is accepted was turned down by none of its tests.
-not-refused : {k : ℕ} {e : Effect} → refused k ≡ accepted e → ⊥
-not-refused h = let z : _≡_ {A = ℕ} 0 1 = cc in absurd (omega arith)
-
-pub not-turned-down : (k : ℕ) (t : Bool) (r : Result) (e : Effect) → (refuse k when t otherwise r) ≡ accepted e → (t ≡ false) × (r ≡ accepted e)
-unfolding refuse_when_otherwise_
-not-turned-down k true r e h = absurd (not-refused h)
-not-turned-down k false r e h = (refl, h)
-
-pub opened-kept : {Made : Type 0} (n start : ℕ) (e : Effect) → opening n start ≡ accepted e → Kept Made (e .net)
+pub opened-invariant : {Reachable : Type 0} (n start : ℕ) (e : Effect) → opening n start ≡ accepted e → Invariant Reachable (e .net)
 unfolding opening
-opened-kept {Made} n start e h =
+opened-invariant {Reachable} n start e h =
     let w = not-turned-down 1 (notOpening n start) (accepted (effect 0 0 (fresh n start))) e h in
-    let same : effect 0 0 (fresh n start) ≡ e = cc in
-    subst (λ z. Kept Made (z .net)) same (opening-kept n start (w .0))
+    let same : effect 0 0 (fresh n start) ≡ e = same-accepted (w .1) in
+    subst (λ z. Invariant Reachable (z .net)) same (opening-invariant n start (w .0))
 
 -- After an accepted call memory is in range. Open needs nothing of the memory before it; every other call was given memory in range.
 module _ (net : Network) (sized : Sized net) where
-  kept-accepted : (c : Call) (e : Effect) → not (memoryInRange net) ≡ false → step c net ≡ accepted e → Kept ⊥ (e .net)
+  invariant-accepted : (c : Call) (e : Effect) → not (memoryInRange net) ≡ false → step c net ≡ accepted e → Invariant ⊥ (e .net)
   unfolding after
-  kept-accepted c e t h = subst (λ z. Kept ⊥ (after net z)) h (kept-step net (in-range-kept net (not-false (memoryInRange net) t) sized) c)
+  invariant-accepted c e t h = subst (λ z. Invariant ⊥ (after net z)) h (invariant-step net (in-range-invariant net (not-false (memoryInRange net) t) sized) c)
 
-  accepted-kept : (c : Call) (e : Effect) → step c net ≡ accepted e → Kept ⊥ (e .net)
+  accepted-invariant : (c : Call) (e : Effect) → step c net ≡ accepted e → Invariant ⊥ (e .net)
   unfolding step
-  accepted-kept (Open n start) e h = opened-kept n start e h
-  accepted-kept (Up a b) e h = kept-accepted (Up a b) e (not-turned-down 1 _ _ e h .0) h
-  accepted-kept (Down a b) e h = kept-accepted (Down a b) e (not-turned-down 1 _ _ e h .0) h
-  accepted-kept (Solicit a t) e h = kept-accepted (Solicit a t) e (not-turned-down 1 _ _ e h .0) h
-  accepted-kept (GiveUp a) e h = kept-accepted (GiveUp a) e (not-turned-down 1 _ _ e h .0) h
-  accepted-kept (Expire a t) e h = kept-accepted (Expire a t) e (not-turned-down 1 _ _ e h .0) h
-  accepted-kept (Deliver k) e h = kept-accepted (Deliver k) e (not-turned-down 1 _ _ e h .0) h
-  accepted-kept (Lose k) e h = kept-accepted (Lose k) e (not-turned-down 1 _ _ e h .0) h
-  accepted-kept (Duplicate k) e h = kept-accepted (Duplicate k) e (not-turned-down 1 _ _ e h .0) h
+  accepted-invariant (Open n start) e h = opened-invariant n start e h
+  accepted-invariant (Up a b) e h = invariant-accepted (Up a b) e (not-turned-down 1 _ _ e h .0) h
+  accepted-invariant (Down a b) e h = invariant-accepted (Down a b) e (not-turned-down 1 _ _ e h .0) h
+  accepted-invariant (Solicit a t) e h = invariant-accepted (Solicit a t) e (not-turned-down 1 _ _ e h .0) h
+  accepted-invariant (GiveUp a) e h = invariant-accepted (GiveUp a) e (not-turned-down 1 _ _ e h .0) h
+  accepted-invariant (Expire a t) e h = invariant-accepted (Expire a t) e (not-turned-down 1 _ _ e h .0) h
+  accepted-invariant (Deliver k) e h = invariant-accepted (Deliver k) e (not-turned-down 1 _ _ e h .0) h
+  accepted-invariant (Lose k) e h = invariant-accepted (Lose k) e (not-turned-down 1 _ _ e h .0) h
+  accepted-invariant (Duplicate k) e h = invariant-accepted (Duplicate k) e (not-turned-down 1 _ _ e h .0) h
 
   pub accepted-in-range : (c : Call) (e : Effect) → step c net ≡ accepted e → memoryInRange (e .net) ≡ true
-  accepted-in-range c e h = kept-in-range (e .net) (accepted-kept c e h)
+  accepted-in-range c e h = invariant-in-range (e .net) (accepted-invariant c e h)

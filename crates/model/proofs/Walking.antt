@@ -9,20 +9,20 @@ use lib.Dec.{eqb}
 use native.Mathlib.Omega.{arith}
 use borrow.Author.Tests.{eqb-true, eqb-false}
 use Rattle.base.specs.Lists.{isEmpty, distinct}
-use Rattle.base.proofs.Flags.{clash, cases}
+use Rattle.base.proofs.Booleans.{clash, cases}
 use Rattle.base.proofs.Lists.{empty-nil, filled-not-nil, distinct-cons, pigeonhole}
 use Rattle.label.specs.Label.{inRange, _≻_}
 use Rattle.label.proofs.Order.{≻-irreflexive, ≻-transitive, ≻-⪰-transitive}
 use Rattle.model.specs.Memory.{Row, Network, labelAt, rowAt, stations}
 use Rattle.model.specs.Calls.{Traced, nextOf, hopLimit, follow, trace}
 use Rattle.model.specs.Walks.{Walk, hopsOf, GoesLower, endOf, TracersWalk, WalksEnd, LoopFree}
-use Rattle.model.proofs.Invariant.{Good}
-use Rattle.model.proofs.Range.{Kept, kept-in-range}
-use Rattle.model.proofs.Steps.{kept-run, opened-kept}
+use Rattle.model.proofs.Invariant.{WellFormed}
+use Rattle.model.proofs.Range.{Invariant, invariant-in-range}
+use Rattle.model.proofs.Steps.{invariant-run, opened-invariant}
 use Rattle.model.proofs.Tracing.{follow-arrives, follow-stops, follow-hops, trace-follows}
 
 -- A rival's walks, in memory that calls made.
-module _ (net : Network) (ok : Good (Unit {0}) net) (t : ℕ) (ht : t < net .n) where
+module _ (net : Network) (ok : WellFormed (Unit {0}) net) (t : ℕ) (ht : t < net .n) where
   ranged : (a : ℕ) → a < net .n → inRange (labelAt net a t) ≡ true
   ranged a ha = ok .tables .cell a t ha ht .ranged
 
@@ -33,7 +33,7 @@ module _ (net : Network) (ok : Good (Unit {0}) net) (t : ℕ) (ht : t < net .n) 
       let o = ok .tables .cell a t ha ht .each e k in
       let r = o .route tt in
       subst (λ z. (z < net .n) × (labelAt net a t ≻ labelAt net z t)) p
-      (o .below, ≻-⪰-transitive (labelAt net a t) (e .label) (labelAt net (e .station) t) (ranged (e .station) (o .below)) (r .lower) (r .kept))
+      (o .below, ≻-⪰-transitive (labelAt net a t) (e .label) (labelAt net (e .station) t) (ranged (e .station) (o .below)) (r .lower) (r .advertised))
 
   walk-lower : (w : List ℕ) (a : ℕ) → a < net .n → Walk net a t w → GoesLower net a t w
   walk-lower [] a ha k = tt
@@ -146,19 +146,19 @@ module _ {A B : Type 0} (x : ℕ) where
   ends-answers (inr (p, na, b)) = inr p
 
 -- Memory that calls made.
-module _ (net : Network) (kept : Kept (Unit {0}) net) (a t : ℕ) (ha : a < net .n) (ht : t < net .n) (apart : a ≢ t) where
+module _ (net : Network) (inv : Invariant (Unit {0}) net) (a t : ℕ) (ha : a < net .n) (ht : t < net .n) (apart : a ≢ t) where
   traced-walk : Followed net a t 0 (trace net a t)
   traced-walk =
-      subst (Followed net a t 0) (sym (trace-follows net a t (kept-in-range net kept) ha ht apart))
-      (followed net t (hopLimit net) 0 a (λ w k. let h = walk-within net (kept .good) t ht w a ha k in omega arith))
+      subst (Followed net a t 0) (sym (trace-follows net a t (invariant-in-range net inv) ha ht apart))
+      (followed net t (hopLimit net) 0 a (λ w k. let h = walk-within net (inv .formed) t ht w a ha k in omega arith))
 
   walks-end : WalksEnd net a t (trace net a t)
   walks-end =
       let g = traced-walk in
       record {
-        lower = λ w k. walk-lower net (kept .good) t ht w a ha k;
-        once = λ w k. walk-once net (kept .good) t ht w a ha k;
-        within = λ w k. walk-within net (kept .good) t ht w a ha k;
+        lower = λ w k. walk-lower net (inv .formed) t ht w a ha k;
+        once = λ w k. walk-once net (inv .formed) t ht w a ha k;
+        within = λ w k. walk-within net (inv .formed) t ht w a ha k;
         path = g .path;
         tracers = g .tracers;
         only-path = λ w k. one-walk net t (g .path) w a (g .tracers) k;
@@ -172,4 +172,4 @@ module _ (net : Network) (kept : Kept (Unit {0}) net) (a t : ℕ) (ha : a < net 
 pub loop-free : LoopFree
 unfolding LoopFree
 loop-free net r a t =
-    walks-end net (subst (Kept (Unit {0})) (sym (r .left)) (kept-run (r .calls) (r .opened .net) (opened-kept (r .n) (r .start) (r .opened) (r .opens)))) a t
+    walks-end net (subst (Invariant (Unit {0})) (sym (r .left)) (invariant-run (r .calls) (r .opened .net) (opened-invariant (r .n) (r .start) (r .opened) (r .opens)))) a t

@@ -5,11 +5,13 @@ use mathlib.Core.List.{List, [], _∷_, _++_, map}
 use lib.ListN.{length, set, take, drop}
 use lib.Dec.{ltb, leb, eqb}
 use Rattle.base.specs.Choice.{if_then_else_}
+use Rattle.base.specs.Numbers.{maxU32}
 use Rattle.base.specs.Lists.{someBelow, below, someIn, keep, isEmpty}
+use Rattle.base.specs.Results.{Result, refused, accepted, refuse_when_otherwise_}
 use Rattle.label.specs.declared.Label.{Label}
 use Rattle.label.specs.Label.{label, unassigned, isUnassigned, above, Outcome, took, gave, newLabel}
 use Rattle.model.specs.Memory.{Successor, Row, Record, Request, Reply, Body, request, reply, error, other, Packet, Network}
-use Rattle.model.specs.Memory.{place, rowIn, labelAt, rowAt, recordAt, linkUp, numberAt, soughtAt, isActive, packetAt}
+use Rattle.model.specs.Memory.{place, rowIn, labelAt, rowAt, recordAt, linkUp, requestNumberAt, soughtAt, isActive, packetAt}
 use Rattle.model.specs.Memory.{setLabel, setRows, setRow, setRecord, setLink, setNumber, setSought, setActive, setAir}
 use Rattle.model.specs.Memory.{fresh, names, without, under, put, airLimit, sizeInRange, memoryInRange}
 
@@ -31,27 +33,13 @@ pub record Effect : Type 0 where
 abbrev pub effect : ℕ → ℕ → Network → Effect
 effect answer sent net = record { answer = answer; sent = sent; net = net }
 
--- How a call ends: turned down with a number, or accepted.
-pub data Result : Type 0 where
-  refused : (number : ℕ) → Result
-  accepted : Effect → Result
-
--- The network after a call: "All" is left by a call turned down.
-unfoldable pub after : Network → Result → Network
+-- The network after a call: "All" is left by one that is turned down.
+unfoldable pub after : Network → Result Effect → Network
 after net (refused number) = net
 after net (accepted e) = e .net
 
--- The numbers that a call on the network is turned down with: 1 to 8.
-unfoldable pub turnsDown : ℕ → Bool
-turnsDown number = ltb 0 number && ltb number 9
-
--- "A number is returned in its row's case, where none tested earlier applies, and in no other."
-infix 10 refuse_when_otherwise_
-unfoldable pub refuse_when_otherwise_ : ℕ → Bool → Result → Result
-refuse_when_otherwise_ number case rest = if case then refused number else rest
-
 -- 7: "more than 128 packets after the call".
-unfoldable pub limited : Effect → Result
+unfoldable pub limited : Effect → Result Effect
 limited e =
     refuse 7 when ltb airLimit (length (e .net .air)) otherwise
     accepted e
@@ -136,15 +124,15 @@ down a b net =
 -- Solicit: "number + 1, t kept as last sought, a active, broadcasts a request with its label for t, reset bit 0".
 unfoldable pub solicit : ℕ → ℕ → Network → Effect
 solicit a t net =
-    let number = numberAt net a + 1 in
+    let number = requestNumberAt net a + 1 in
     let R : Request = record { source = a; number = number; destination = t; label = labelAt net a t; reset = false } in
     sending 0 (copies net a (request R)) (setActive a true (setSought a t (setNumber a number net)))
 
 -- A request R from j, delivered to i.
 
 -- "the record is rewritten with R's number, destination, label as C, j, and nothing passed".
-unfoldable pub recordOf : ℕ → Request → Record
-recordOf j R = record { number = R .number; destination = R .destination; cached = R .label; lastHop = j; passed = false }
+unfoldable pub recorded : ℕ → Request → Record
+recorded j R = record { number = R .number; destination = R .destination; cached = R .label; lastHop = j; passed = false }
 
 unfoldable pub markPassed : Record → Record
 markPassed r = record { number = r .number; destination = r .destination; cached = r .cached; lastHop = r .lastHop; passed = true }
@@ -184,7 +172,7 @@ onwardLabel own R = if above (R .label) own then own else R .label
 unfoldable pub onwardReset : Label → Request → Bool
 onwardReset own R =
     if isUnassigned own && isUnassigned (R .label) || ltb (R .label .s .0) (own .s .0) then false
-    else if not (above (R .label) own) && ltb 4_294_967_295 (own .d + R .label .d) then true
+    else if not (above (R .label) own) && ltb maxU32 (own .d + R .label .d) then true
     else R .reset
 
 -- "Else it broadcasts R with a new label and bit: 103."
@@ -206,7 +194,7 @@ engage i j R net =
 unfoldable pub onRequest : ℕ → ℕ → Request → Network → Effect
 onRequest i j R net =
     if eqb i (R .source) || leb (R .number) (recordAt net i (R .source) .number) then effect 101 0 net
-    else engage i j R (setRecord i (R .source) (recordOf j R) net)
+    else engage i j R (setRecord i (R .source) (recorded j R) net)
 
 -- A reply V from j, delivered to i.
 
@@ -214,7 +202,7 @@ onRequest i j R net =
 unfoldable pub matches : ℕ → Reply → Network → Bool
 matches i v net =
     let kept = recordAt net i (v .source) in
-    if eqb i (v .source) then eqb (numberAt net i) (v .number) && eqb (soughtAt net i) (v .destination)
+    if eqb i (v .source) then eqb (requestNumberAt net i) (v .number) && eqb (soughtAt net i) (v .destination)
     else eqb (kept .number) (v .number) && eqb (kept .destination) (v .destination)
 
 -- "C is unassigned at the source, else the record's."
@@ -301,12 +289,12 @@ deliver k net =
 unfoldable pub notOpening : (n start : ℕ) → Bool
 notOpening n start = not (sizeInRange n) || eqb start 0
 
-unfoldable pub opening : ℕ → ℕ → Result
+unfoldable pub opening : ℕ → ℕ → Result Effect
 opening n start =
     refuse 1 when notOpening n start otherwise
     accepted (effect 0 0 (fresh n start))
 
-unfoldable pub step : Call → Network → Result
+unfoldable pub step : Call → Network → Result Effect
 step (Open n start) net = opening n start
 step (Up a b) net =
     refuse 1 when not (memoryInRange net) otherwise
@@ -322,7 +310,7 @@ step (Solicit a t) net =
     refuse 1 when not (memoryInRange net) otherwise
     refuse 2 when notPair net a t otherwise
     refuse 4 when isActive net a otherwise
-    refuse 8 when leb 4_294_967_295 (numberAt net a) otherwise
+    refuse 8 when leb maxU32 (requestNumberAt net a) otherwise
     limited (solicit a t net)
 step (GiveUp a) net =
     refuse 1 when not (memoryInRange net) otherwise

@@ -5,10 +5,11 @@ use mathlib.Core.List.{List, [], _∷_}
 use lib.ListN.{length, getD}
 use lib.Dec.{ltb, eqb}
 use Rattle.base.specs.Choice.{if_then_else_}
-use Rattle.base.specs.Lists.{tabulate}
-use Rattle.model.specs.Memory.{Network, fresh}
+use Rattle.base.specs.Lists.{allBelow, tabulate}
+use Rattle.base.specs.Results.{Result, accepted, refuse_when_otherwise_}
+use Rattle.model.specs.Memory.{Network, fresh, memoryInRange}
 use Rattle.model.specs.Calls.{Call, Up, Down, Solicit, GiveUp, Expire, Deliver, Lose, Duplicate}
-use Rattle.model.specs.Calls.{effect, Result, accepted, refuse_when_otherwise_, notOpening, run}
+use Rattle.model.specs.Calls.{Effect, effect, notOpening, run}
 
 -- 11: "kind not 1..9, or an unused operand not 0". "In 4, 6, 7, 8 b is unused".
 unfoldable pub usesOne : ℕ → Bool
@@ -41,6 +42,10 @@ eventOf kind a b =
     else if eqb kind 9 then traces a b
     else calls (callOf kind a b)
 
+-- The answer of what is no event: 11, where 1 does not come first.
+unfoldable pub noEventAnswer : Network → ℕ
+noEventAnswer net = if memoryInRange net then 11 else 1
+
 -- "E kinds; then E operand pairs a, b".
 unfoldable pub eventAt : (kinds operands : List ℕ) → ℕ → Event
 eventAt kinds operands i = eventOf (getD kinds i 0) (getD operands (2 * i) 0) (getD operands (2 * i + 1) 0)
@@ -56,8 +61,15 @@ callsIn (traces a t ∷ events) = callsIn events
 callsIn (noEvent ∷ events) = callsIn events
 
 -- 10: "events over 4,096, .. operands not 2E".
+abbrev pub eventLimit : ℕ
+eventLimit = 4_096
+
 unfoldable pub notEvents : (kinds operands : ℕ) → Bool
-notEvents kinds operands = ltb 4_096 kinds || not (eqb operands (2 * kinds))
+notEvents kinds operands = ltb eventLimit kinds || not (eqb operands (2 * kinds))
+
+-- 11, of any of them.
+unfoldable pub allEvents : (kinds operands : List ℕ) → Bool
+allEvents kinds operands = allBelow (length kinds) (λ i. not (notEvent (getD kinds i 0) (getD operands (2 * i + 1) 0)))
 
 -- Events from fresh memory, one after the other.
 module _ (n start : ℕ) (kinds operands : List ℕ) where
@@ -65,8 +77,10 @@ module _ (n start : ℕ) (kinds operands : List ℕ) where
   unfoldable pub afterFirst : ℕ → Network
   afterFirst i = run (callsIn (tabulate i (eventAt kinds operands))) (fresh n start)
 
-  unfoldable pub running : Result
+  -- The whole run tests 10, 1, 11, as writing a script does.
+  unfoldable pub running : Result Effect
   running =
       refuse 10 when notEvents (length kinds) (length operands) otherwise
       refuse 1 when notOpening n start otherwise
+      refuse 11 when not (allEvents kinds operands) otherwise
       accepted (effect 0 0 (afterFirst (length kinds)))

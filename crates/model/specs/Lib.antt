@@ -1,6 +1,7 @@
 pub mod Memory
 pub mod Calls
 pub mod Walks
+pub mod Histories
 pub mod Events
 pub mod Printout
 pub mod Sample

@@ -109,8 +109,8 @@ recordAt net i s = recordIn (net .records) i s
 abbrev pub linkUp : Network → ℕ → ℕ → Bool
 linkUp net a b = linkIn (net .links) a b
 
-abbrev pub numberAt : Network → ℕ → ℕ
-numberAt net i = getD (net .numbers) i 0
+abbrev pub requestNumberAt : Network → ℕ → ℕ
+requestNumberAt net i = getD (net .numbers) i 0
 
 abbrev pub soughtAt : Network → ℕ → ℕ
 soughtAt net i = getD (net .sought) i 0

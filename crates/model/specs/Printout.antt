@@ -5,11 +5,12 @@ use mathlib.Core.List.{List, [], _++_, map}
 use lib.ListN.{length, getD}
 use lib.Dec.{eqb}
 use Rattle.base.specs.Lists.{below, tabulate}
+use Rattle.base.specs.Results.{Result, refused, accepted}
 use Rattle.label.specs.declared.Label.{Label}
 use Rattle.label.specs.Label.{isUnassigned}
 use Rattle.model.specs.Memory.{Network, labelAt, rowAt, stations}
-use Rattle.model.specs.Calls.{Result, refused, accepted, step, trace}
-use Rattle.model.specs.Events.{Event, calls, traces, noEvent, eventAt, afterFirst}
+use Rattle.model.specs.Calls.{Effect, step, trace}
+use Rattle.model.specs.Events.{Event, calls, traces, noEvent, noEventAnswer, eventAt, afterFirst}
 
 -- "index, kind, a, b, answer .., packets sent .., packets in the air after it, hops".
 pub record Line : Type 0 where
@@ -29,14 +30,14 @@ line index kind a b answer sent air hops =
 -- "answer (the refusal or outcome number, 0 if neither), packets sent (0 if refused ..), .. hops (0 but for an accepted Trace)": the line of
 -- an event on this network, after its index, kind and operands.
 module _ (index kind a b : ℕ) (net : Network) where
-  unfoldable pub resultLine : Result → Line
+  unfoldable pub resultLine : Result Effect → Line
   resultLine (refused number) = line index kind a b number 0 (length (net .air)) 0
   resultLine (accepted e) = line index kind a b (e .answer) (e .sent) (length (e .net .air)) 0
 
   unfoldable pub lineOf : Event → Line
   lineOf (calls c) = resultLine (step c net)
   lineOf (traces x t) = line index kind a b (trace net x t .answer) 0 (length (net .air)) (trace net x t .hops)
-  lineOf noEvent = line index kind a b 11 0 (length (net .air)) 0
+  lineOf noEvent = line index kind a b (noEventAnswer net) 0 (length (net .air)) 0
 
 -- An "L" line: "i t s m d successors in row order".
 pub record LabelLine : Type 0 where

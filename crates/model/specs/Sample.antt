@@ -3,17 +3,18 @@ use Prim.Native.Nat.{ℕ}
 use mathlib.Core.Path.{_≡_, refl}
 use mathlib.Core.List.{List, [], _∷_}
 use Rattle.base.specs.Lists.{allBelow, below, allIn, someIn, keep, isEmpty, tabulate, distinct}
+use Rattle.base.specs.Results.{refuse_when_otherwise_}
 use Rattle.label.specs.Label.{label, unassigned, isUnassigned, inRange, above, fitting, next, split, newLabel}
 use Rattle.model.specs.Memory.{zeroLabel, zeroRecord, zeroPacket, linkIn}
 use Rattle.model.specs.Memory.{setLabels, setRows, setRecords, setLinks, setNumbers, setSoughts, setActives, setAir, freshLabels, freshRecord, fresh}
 use Rattle.model.specs.Memory.{names, without, under, replace, withRoom, put}
 use Rattle.model.specs.Memory.{successorInRange, rowInRange, recordInRange, ownInRange, cellInRange, stationInRange}
 use Rattle.model.specs.Memory.{headInRange, bodyInRange, packetInRange, airInRange, sizeInRange, memoryInRange}
-use Rattle.model.specs.Calls.{after, refuse_when_otherwise_, limited, notStation, notPair, notPacket, step, run}
+use Rattle.model.specs.Calls.{after, limited, notStation, notPair, notPacket, step, run}
 use Rattle.model.specs.Calls.{send, sending, neighbours, copies, solicit, removePacket, receive, deliver}
-use Rattle.model.specs.Calls.{recordOf, markPassed, replyTo, resets, atDestination, canReply, onwardLabel, onwardReset, onward, engage, onRequest}
+use Rattle.model.specs.Calls.{recorded, markPassed, replyTo, resets, atDestination, canReply, onwardLabel, onwardReset, onward, engage, onRequest}
 use Rattle.model.specs.Calls.{matches, cachedAt, adopt, settle, passesOn, passOn, onOutcome, onReply, nextOf, follow, trace}
-use Rattle.model.specs.Events.{usesOne, notEvent, callOf, eventOf, eventAt, callsIn, afterFirst}
+use Rattle.model.specs.Events.{usesOne, notEvent, callOf, eventOf, eventAt, callsIn, afterFirst, noEventAnswer}
 use Rattle.model.specs.Printout.{Line, line, resultLine, lineOf, LabelLine, labelLine, isListed, labelLineAt, stationLines, labelLines, lineAt, eventLines, routeLines}
 
 -- "03 0900 0100000000000000 010103060607060609 0001 0102 0200 0000 0000 0000 0000 0000 0200".
@@ -44,6 +45,6 @@ unfolding eventLines lineAt lineOf resultLine routeLines labelLines stationLines
     cellInRange rowInRange recordInRange ownInRange headInRange bodyInRange packetInRange successorInRange allBelow below allIn someIn keep
     isEmpty distinct unassigned isUnassigned inRange above fitting next split newLabel zeroLabel zeroRecord zeroPacket linkIn setLabels
     setRows setRecords setLinks setNumbers setSoughts setActives setAir freshLabels freshRecord fresh names without under replace withRoom
-    put send sending neighbours copies solicit recordOf markPassed replyTo resets atDestination canReply onwardLabel onwardReset onward
+    put send sending neighbours copies solicit recorded markPassed replyTo resets atDestination canReply onwardLabel onwardReset onward
     engage onRequest matches cachedAt adopt settle passesOn passOn onOutcome onReply removePacket receive deliver nextOf follow trace
 prints = (refl, refl)

@@ -6,9 +6,10 @@ use mathlib.Core.Bool.{true}
 use mathlib.Core.List.{List, [], _∷_, List·Memᴰ}
 use lib.ListN.{length}
 use Rattle.base.specs.Lists.{distinct}
+use Rattle.base.specs.Results.{accepted}
 use Rattle.label.specs.Label.{_≻_}
 use Rattle.model.specs.Memory.{Network, labelAt, rowAt, stations}
-use Rattle.model.specs.Calls.{Call, Effect, accepted, opening, run, Traced, nextOf, trace}
+use Rattle.model.specs.Calls.{Call, Effect, opening, run, Traced, nextOf, trace}
 
 -- "A walk from a for t .. is a chain of stations with a first, each next one taken from the row for t of the one before. It may stop anywhere
 -- and must stop at an empty row". The list holds the stations after a.

@@ -45,16 +45,16 @@ module _ (mask j i : ℕ) (rows : List Row) where
       rest = λ x h. k .rest x (omega arith);
     }
 
-    pub taking-more : (kept : Row) (gone′ : ℕ) (any′ : Bool) → bit mask t ≡ true
-        → rowOf kept ≡ without (names j) (rowOf (getD rows (place i t) zeroRow))
+    pub taking-more : (rest : Row) (gone′ : ℕ) (any′ : Bool) → bit mask t ≡ true
+        → rowOf rest ≡ without (names j) (rowOf (getD rows (place i t) zeroRow))
         → gone′ ≡ gone + (if empties (names j) (rowOf (getD rows (place i t) zeroRow)) then 2 ^ t else 0)
         → any′ ≡ any || someIn (names j) (rowOf (getD rows (place i t) zeroRow))
-        → Taking mask j i rows (t + 1) (set next (place i t) kept) gone′ any′
+        → Taking mask j i rows (t + 1) (set next (place i t) rest) gone′ any′
     unfolding takeOut emptied removes someBelow
-    taking-more kept gone′ any′ e p q r = let here = sym (row-at rows (place i t)) in record {
-      taken = rw (add-one, e) (map-set rowOf next (place i t) kept
+    taking-more rest gone′ any′ e p q r = let here = sym (row-at rows (place i t)) in record {
+      taken = rw (add-one, e) (map-set rowOf next (place i t) rest
           ∙ ap₂ (λ (x : List model.Row) (y : model.Row). set x (place i t) y) (k .taken) (p ∙ ap (without (names j)) here));
       lost = rw (add-one, e) (q ∙ ap₂ (λ (x : ℕ) (y : model.Row). x + (if empties (names j) y then 2 ^ t else 0)) (k .lost) here);
       found = rw (add-one, e) (r ∙ ap₂ (λ (b : Bool) (y : model.Row). b || someIn (names j) y) (k .found) here);
-      rest = λ x h. getD-set-other next (place i t) x kept zeroRow (λ q. omega arith) ∙ k .rest x (omega arith);
+      rest = λ x h. getD-set-other next (place i t) x rest zeroRow (λ q. omega arith) ∙ k .rest x (omega arith);
     }

@@ -186,11 +186,11 @@ module _ {M : Type 1} (𝓤 : URA M) (H : Heap 𝓤) (A : Atoms 𝓤) (b : ℕ) 
   abbrev Rest : Item 𝓤
   Rest = kept-field air.the-type air′.the-laws 0 0 M 𝓤 H A (air.struct .as-values a) b 0
 
-  abbrev Kept : GName → Item 𝓤
-  Kept γ = ‵ (flent κ (Held packet.the-row (length (a .packets)) b 0 γ)) ⊛ Rest
+  abbrev Invariant : GName → Item 𝓤
+  Invariant γ = ‵ (flent κ (Held packet.the-row (length (a .packets)) b 0 γ)) ⊛ Rest
 
   abbrev Lent : GName → Item 𝓤
-  Lent γ = ‵ (Slice b 0 γ κ (a .packets) (a .packets)) ⊛ Kept γ
+  Lent γ = ‵ (Slice b 0 γ κ (a .packets) (a .packets)) ⊛ Invariant γ
 
 module _ {M : Type 1} (𝓤 : URA M) (H : Heap 𝓤) (A : Atoms 𝓤) (W : Given 𝓤 H A) (b : ℕ) (κ : Lft) (a : Air) (long : length (a .packets) ≡ 128) where
   array-out : ent 𝓤 (sem 𝓤 H A (mem air.the-row .lies a b 0)) (sep 𝓤 (sem 𝓤 H A (partAt (Array packet.the-row 128) fullShare (a .packets) b 0)) (mean 𝓤 H A (Rest 𝓤 H A b κ a)))
@@ -221,10 +221,10 @@ module _ {M : Type 1} (𝓤 : URA M) (H : Heap 𝓤) (A : Atoms 𝓤) (W : Given
       move ! (1 ∷ 2 ∷ []) $ join ! $ move ! (1 ∷ 0 ∷ []) $ join ! $ at-once ! $ show ! (λ (γ : GName). mean 𝓤 H A (Lent 𝓤 H A b κ a γ)) γ $ done !)
 
   comes-back : (γ : GName) (l : List Packet)
-      → ent 𝓤 (sep 𝓤 (A .dead κ) (sep 𝓤 (mean 𝓤 H A (Kept 𝓤 H A b κ a γ)) (sem 𝓤 H A (finally packet.the-row γ l)))) (H .⇛ (mean 𝓤 H A (Whole b (air-of l (a .count)))))
+      → ent 𝓤 (sep 𝓤 (A .dead κ) (sep 𝓤 (mean 𝓤 H A (Invariant 𝓤 H A b κ a γ)) (sem 𝓤 H A (finally packet.the-row γ l)))) (H .⇛ (mean 𝓤 H A (Whole b (air-of l (a .count)))))
   unfolding partOf
   comes-back γ l =
-      qed W (‵ (fdead κ) ∷ Kept 𝓤 H A b κ a γ ∷ ‵ (finally packet.the-row γ l) ∷ []) ∵ updating ! $ move ! (1 ∷ []) $ split ! $ move ! (2 ∷ 0 ∷ 3 ∷ []) $
+      qed W (‵ (fdead κ) ∷ Invariant 𝓤 H A b κ a γ ∷ ‵ (finally packet.the-row γ l) ∷ []) ∵ updating ! $ move ! (1 ∷ []) $ split ! $ move ! (2 ∷ 0 ∷ 3 ∷ []) $
       use3 W (later (‵ (Arr (mem packet.the-row) (length (a .packets)) .lies l b 0))) (slice-back 𝓤 H A W packet.the-row κ γ l (length (a .packets)) b 0) $ await ! tt $
       rewrite ! 0 (λ (n : ℕ). ‵ (Arr (mem packet.the-row) n .lies l b 0)) long refl $ fsplit ! $ feqL ! (λ e.
       -- [the packets l; the rest]
@@ -276,7 +276,7 @@ module _ {M : Type 1} {𝓤 : URA M} {H : Heap 𝓤} {A : Atoms 𝓤} {K : Type 
       → (b : ℕ) (a : Air) (long : length (a .packets) ≡ 128) (m : List Packet) (x : ℕ → GName → c .Ghost)
       → ((ν : ℕ) (γ : GName) → ent 𝓤 (⋆ 𝓤 H A (‵ (flft (ν ∷ []) fullShare) ∷ ‵ (Slice b 0 γ (ν ∷ []) (a .packets) (a .packets)) ∷ [])) (c .pre (x ν γ)))
       → ((ν : ℕ) (γ : GName) (w : Val) → ent 𝓤 (c .post (x ν γ) w) (H .⇛ (ex 𝓤 (λ (l : List Packet). mean 𝓤 H A (Left 𝓤 H A W (ν ∷ []) γ w m l)))))
-      → ((ν : ℕ) (γ : GName) → Opds K W (raw (c .pre (x ν γ)) ∷ Kept 𝓤 H A b (ν ∷ []) a γ ∷ Γ) E xs (c .args (x ν γ)))
+      → ((ν : ℕ) (γ : GName) → Opds K W (raw (c .pre (x ν γ)) ∷ Invariant 𝓤 H A b (ν ∷ []) a γ ∷ Γ) E xs (c .args (x ν γ)))
       → {d : ℕ} (n : ℕ) → nth 𝓤 H A n Γ ≡ ‵ (froom (spotOf 𝓤 H E d .0) (spotOf 𝓤 H E d .1) (spotOf 𝓤 H E d .2)) → spotOf 𝓤 H E d .0 ≡ tyUnit
       → ((w : Val) → ValidAir (air-of m (a .count))
       → Seq K W (‵ (fat fullShare air′.mir b 0 (only (air-vals (air-of m (a .count))))) ∷ put 𝓤 H A n (‵ (fat fullShare (spotOf 𝓤 H E d .0) (spotOf 𝓤 H E d .1) (spotOf 𝓤 H E d .2) w)) Γ) (runs C Λ E rest Q))

@@ -8,7 +8,7 @@ use lib.Dec.{ltb, leb}
 use native.Mathlib.Omega.{arith}
 use borrow.Author.Tests.{lt-ltb, leb-true}
 use Rattle.base.specs.Lists.{allBelow, someIn, tabulate, indexOf, distinct}
-use Rattle.base.proofs.Flags.{both, Against, less, equal, more, against}
+use Rattle.base.proofs.Booleans.{both, Trichotomy, less, equal, more, trichotomy}
 use Rattle.base.proofs.Loops.{tabulate-length, index-within, index-outside, all-pairs, all-square, distinct-tabulate}
 use Rattle.model.specs.Memory as model
 use Rattle.model.specs.Memory.{Successor, names, stations, headInRange, bodyInRange, sizeInRange, cellInRange, placeInRange, airInRange}
@@ -35,9 +35,9 @@ headOf n p = headInRange n (p .source) (p .number .0) (p .destination) (p .label
 module _ (n : ℕ) (p : Packet) where
   pub range-headed : 0 < p .kind → p .kind < 3 → bodyInRange n (bodyOf p) ≡ headOf n p
   unfolding bodyInRange requestOf replyOf
-  range-headed h k = go (against (p .kind) 2)
+  range-headed h k = go (trichotomy (p .kind) 2)
     where
-      go : Against (p .kind) 2 → bodyInRange n (bodyOf p) ≡ headOf n p
+      go : Trichotomy (p .kind) 2 → bodyInRange n (bodyOf p) ≡ headOf n p
       go (less l) = ap (bodyInRange n) (body-request p (omega arith))
       go (equal e) = ap (bodyInRange n) (body-reply p e)
       go (more l) = absurd (omega arith)

@@ -6,7 +6,7 @@ use mathlib.Core.Bool.{Bool, true}
 use mathlib.Core.List.{List, map, List·Memᴰ}
 use lib.ListN.{length, getD, length-map}
 use native.Mathlib.Omega.{arith}
-use Rattle.base.proofs.Flags.{Against, less, equal, more, against}
+use Rattle.base.proofs.Booleans.{Trichotomy, less, equal, more, trichotomy}
 use Rattle.base.proofs.Lists.{mem-at, unmapped}
 use Rattle.base.proofs.Loops.{tabulate-length, tabulate-at}
 use Rattle.label.specs.declared.Label.{Label}
@@ -14,7 +14,7 @@ use Rattle.label.specs.Label.{inRange}
 use Rattle.model.specs.Memory as model
 use Rattle.model.specs.Memory.{place, memoryInRange}
 use Rattle.model.proofs.Invariant.{HeadOk, BodyOk, PacketOk, RecordOk}
-use Rattle.model.proofs.Range.{Sized, Kept, in-range-kept}
+use Rattle.model.proofs.Range.{Sized, Invariant, in-range-invariant}
 use Rattle.network.specs.declared.Row.{Row}
 use Rattle.network.specs.declared.Record.{Record}
 use Rattle.network.specs.declared.Packet.{Packet}
@@ -46,12 +46,12 @@ pub record Carried (n : ℕ) (p : Packet) : Type 0 where
 
 module _ (n : ℕ) (p : Packet) (ok : BodyOk n (bodyOf p)) where
   carried-kinds : (0 < p .kind) × (p .kind < 4)
-  carried-kinds = go (against (p .kind) 0) (against (p .kind) 4)
+  carried-kinds = go (trichotomy (p .kind) 0) (trichotomy (p .kind) 4)
     where
       other : ((k : ℕ) → 0 < k → k < 4 → p .kind ≢ k) → ⊥
       other h = subst (BodyOk n) (body-other p (h 1 (omega arith) (omega arith)) (h 2 (omega arith) (omega arith)) (h 3 (omega arith) (omega arith))) ok
 
-      go : Against (p .kind) 0 → Against (p .kind) 4 → (0 < p .kind) × (p .kind < 4)
+      go : Trichotomy (p .kind) 0 → Trichotomy (p .kind) 4 → (0 < p .kind) × (p .kind < 4)
       go (less l) b = absurd (omega arith)
       go (equal e) b = absurd (other (λ k h l q. omega arith))
       go (more l) (less m) = (l, m)
@@ -60,9 +60,9 @@ module _ (n : ℕ) (p : Packet) (ok : BodyOk n (bodyOf p)) where
 
   carried-head : p .kind ≢ 3 → HeadOk n (p .source) (p .number .0) (p .destination) (p .label)
   unfolding requestOf replyOf
-  carried-head h = go (against (p .kind) 2)
+  carried-head h = go (trichotomy (p .kind) 2)
     where
-      go : Against (p .kind) 2 → HeadOk n (p .source) (p .number .0) (p .destination) (p .label)
+      go : Trichotomy (p .kind) 2 → HeadOk n (p .source) (p .number .0) (p .destination) (p .label)
       go (less l) = subst (BodyOk n) (body-request p (omega (arith, carried-kinds))) ok
       go (equal e) = subst (BodyOk n) (body-reply p e) ok
       go (more l) = absurd (h (omega (arith, carried-kinds)))
@@ -93,18 +93,18 @@ pub record Ranged (memory : Memory) : Type 0 where
   pub kept : (i s : ℕ) → i < memory .n → s < memory .n → i ≢ s → RecordOk (memory .n) (recordOf (getD (memory .records) (place i s) zeroRecord))
   pub sought : (i : ℕ) → i < memory .n → getD (memory .sought) i 0 < memory .n
 
-module _ (memory : Memory) (k : Kept ⊥ (view memory)) where
+module _ (memory : Memory) (k : Invariant ⊥ (view memory)) where
   packet-carried : (x : ℕ) → x < memory .air .count → Carried (memory .n) (getD (memory .air .packets) x zeroPacket)
   unfolding view
   packet-carried x h =
       let there = mem-at (airOf (memory .air)) x model.zeroPacket (omega (arith, air-length (memory .air))) in
-      carried (memory .n) _ (subst (PacketOk ⊥ _ _ _) (air-at (memory .air) x model.zeroPacket h) (k .good .air _ there))
+      carried (memory .n) _ (subst (PacketOk ⊥ _ _ _) (air-at (memory .air) x model.zeroPacket h) (k .formed .air _ there))
 
   row-short : (i t : ℕ) → i < memory .n → t < memory .n → getD (memory .rows) (place i t) zeroRow .count ≤ 4
   unfolding view
   row-short i t hi ht =
       let row = getD (memory .rows) (place i t) zeroRow in
-      omega (arith, ap length (row-at (memory .rows) (place i t)), row-length row, k .good .tables .cell i t hi ht .short)
+      omega (arith, ap length (row-at (memory .rows) (place i t)), row-length row, k .formed .tables .cell i t hi ht .short)
 
   successor-below : (i t x : ℕ) → i < memory .n → t < memory .n → x < getD (memory .rows) (place i t) zeroRow .count
       → getD (getD (memory .rows) (place i t) zeroRow .stations) x 0 < memory .n
@@ -114,28 +114,28 @@ module _ (memory : Memory) (k : Kept ⊥ (view memory)) where
       let there = mem-at (rowOf row) x (entryOf row 0) (omega (arith, row-length row)) in
       let same = tabulate-at (row .count) (entryOf row) x (entryOf row 0) h in
       rw (ap (λ (e : model.Successor). e .station) same) at
-      (k .good .tables .cell i t hi ht .each _ (subst (List·Memᴰ _) (sym (row-at (memory .rows) (place i t))) there) .below)
+      (k .formed .tables .cell i t hi ht .each _ (subst (List·Memᴰ _) (sym (row-at (memory .rows) (place i t))) there) .below)
 
   label-ranged : (i t : ℕ) → i < memory .n → t < memory .n → inRange (labelOf (memory .s) (memory .m) (memory .d) (place i t)) ≡ true
   unfolding view
   label-ranged i t hi ht =
-      let at = label-at (memory .s) (memory .m) (memory .d) (place i t) (omega (arith, k .good .high)) in
-      ap inRange (sym at) ∙ k .good .tables .cell i t hi ht .ranged
+      let at = label-at (memory .s) (memory .m) (memory .d) (place i t) (omega (arith, k .formed .high)) in
+      ap inRange (sym at) ∙ k .formed .tables .cell i t hi ht .ranged
 
   pub ranged : Ranged memory
   unfolding view
   ranged = record {
-    low = k .good .low;
-    high = k .good .high;
+    low = k .formed .low;
+    high = k .formed .high;
     air-count = omega (arith, k .room, air-length (memory .air));
     packet = packet-carried;
     row-count = row-short;
     successor = successor-below;
     label = label-ranged;
-    kept = λ i s hi hs q. subst (RecordOk (memory .n)) (record-at (memory .records) (place i s)) (k .good .records .each i s hi hs q);
-    sought = λ i hi. k .good .sought .each i hi;
+    kept = λ i s hi hs q. subst (RecordOk (memory .n)) (record-at (memory .records) (place i s)) (k .formed .records .each i s hi hs q);
+    sought = λ i hi. k .formed .sought .each i hi;
   }
 
 -- The same from the range test.
 pub in-range-ranged : (memory : Memory) → Sized (view memory) → memoryInRange (view memory) ≡ true → Ranged memory
-in-range-ranged memory s h = ranged memory (in-range-kept (view memory) h s)
+in-range-ranged memory s h = ranged memory (in-range-invariant (view memory) h s)

@@ -80,14 +80,14 @@ unfolding rowOf
 row-length row = tabulate-length (row .count) (entryOf row)
 
 -- Of k entries no more than k stay.
-pub kept-short : (next : Row) (t : model.Successor → Bool) (k : ℕ) (f : ℕ → model.Successor) → rowOf next ≡ keep t (tabulate k f) → next .count ≤ k
-kept-short next t k f e =
+pub filtered-short : (next : Row) (t : model.Successor → Bool) (k : ℕ) (f : ℕ → model.Successor) → rowOf next ≡ keep t (tabulate k f) → next .count ≤ k
+filtered-short next t k f e =
     let q : length (keep t (tabulate k f)) ≡ next .count = ap length (sym e) ∙ row-length next in
     omega (arith, keep-length t (tabulate k f), tabulate-length k f)
 
-pub kept-shorter : (row next : Row) (t : model.Successor → Bool) → rowOf next ≡ keep t (rowOf row) → next .count ≤ row .count
+pub filtered-shorter : (row next : Row) (t : model.Successor → Bool) → rowOf next ≡ keep t (rowOf row) → next .count ≤ row .count
 unfolding rowOf
-kept-shorter row next t e = kept-short next t (row .count) (entryOf row) e
+filtered-shorter row next t e = filtered-short next t (row .count) (entryOf row) e
 
 -- A full row without its first entry.
 pub row-first-left : (row : Row) → row .count ≡ 4
@@ -98,26 +98,26 @@ unfolding rowOf entryOf tabulate
 row-first-left row full = rw full refl
 
 -- A row that j left: what its count tells.
-module _ (row kept : Row) (j : ℕ) (e : rowOf kept ≡ keep (keeps (Without j)) (rowOf row)) where
-  pub lost : rowOf kept ≡ without (names j) (rowOf row)
+module _ (row rest : Row) (j : ℕ) (e : rowOf rest ≡ keep (keeps (Without j)) (rowOf row)) where
+  pub lost : rowOf rest ≡ without (names j) (rowOf row)
   unfolding without keeps
   lost = e
 
-  left-length : length (without (names j) (rowOf row)) ≡ kept .count
-  left-length = ap length (sym lost) ∙ row-length kept
+  left-length : length (without (names j) (rowOf row)) ≡ rest .count
+  left-length = ap length (sym lost) ∙ row-length rest
 
-  pub lost-none : kept .count ≡ row .count → someIn (names j) (rowOf row) ≡ false
+  pub lost-none : rest .count ≡ row .count → someIn (names j) (rowOf row) ≡ false
   unfolding without
   lost-none q = none-left (names j) (rowOf row) (left-length ∙ q ∙ sym (row-length row))
 
-  pub lost-some : kept .count ≢ row .count → someIn (names j) (rowOf row) ≡ true
+  pub lost-some : rest .count ≢ row .count → someIn (names j) (rowOf row) ≡ true
   unfolding without
   lost-some n = some-left (names j) (rowOf row) (λ q. n (sym left-length ∙ q ∙ row-length row))
 
-  pub empties-none : kept .count ≡ row .count → empties (names j) (rowOf row) ≡ false
+  pub empties-none : rest .count ≡ row .count → empties (names j) (rowOf row) ≡ false
   unfolding empties
   empties-none q = rw (lost-none q)
 
-  pub empties-some : kept .count ≢ row .count → empties (names j) (rowOf row) ≡ eqb (kept .count) 0
+  pub empties-some : rest .count ≢ row .count → empties (names j) (rowOf row) ≡ eqb (rest .count) 0
   unfolding empties
   empties-some n = rw (lost-some n) (empty-length (without (names j) (rowOf row)) ∙ ap (λ c. eqb c 0) left-length)

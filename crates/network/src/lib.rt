@@ -8,13 +8,18 @@ pub mod places;
 pub mod range;
 pub mod rows;
 
+// The most successors of a row, and the most packets in the air.
+pub const ROW_LIMIT: u8 = 4;
+
+pub const AIR_LIMIT: u8 = 128;
+
 // A source's request number.
 pub struct RequestNumber(pub u32);
 
-// A row of up to four successors: entry k is the station stations[k] with the label that it advertised, labels[k].
+// A row of successors: entry k is the station stations[k] with the label that it advertised, labels[k].
 pub struct Row {
-    pub labels: [Label; 4],
-    pub stations: [u8; 4],
+    pub labels: [Label; ROW_LIMIT as usize],
+    pub stations: [u8; ROW_LIMIT as usize],
     pub count: u8,
 }
 
@@ -43,7 +48,7 @@ pub struct Packet {
 
 // The packets in the air, in the order they were sent.
 pub struct Air {
-    pub packets: [Packet; 128],
+    pub packets: [Packet; AIR_LIMIT as usize],
     pub count: u8,
 }
 

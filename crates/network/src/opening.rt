@@ -3,9 +3,11 @@ ghost use mathlib.Core.Path.{_≡_};
 ghost use Prim.Native.Nat.{_≤_};
 ghost use Rattle.model.specs.Memory.{fresh};
 ghost use Rattle.network.specs.View.{view};
+use crate::AIR_LIMIT;
 use crate::Air;
 use crate::Memory;
 use crate::Packet;
+use crate::ROW_LIMIT;
 use crate::Record;
 use crate::RequestNumber;
 use crate::Row;
@@ -35,8 +37,8 @@ pub fn fresh(n: u8, start: u64) -> Memory
         m: 1,
         d: 1,
     };
-    let labels = [unassigned; 4];
-    let stations = [0; 4];
+    let labels = [unassigned; ROW_LIMIT as usize];
+    let stations = [0; ROW_LIMIT as usize];
     let row = Row {
         labels: labels,
         stations: stations,
@@ -60,7 +62,7 @@ pub fn fresh(n: u8, start: u64) -> Memory
         destination: 0,
         reset: false,
     };
-    let packets = [packet; 128];
+    let packets = [packet; AIR_LIMIT as usize];
     let air = Air {
         packets: packets,
         count: 0,

@@ -5,16 +5,16 @@ ghost use mathlib.Core.List.{[], _∷_, _++_, map};
 ghost use Prim.Native.Nat.{suc, _+_, _<_, _≤_};
 ghost use lib.ListN.{length, take, drop, set};
 ghost use Rattle.base.specs.Lists.{keep, below, removed};
-ghost use Rattle.model.specs.Memory.{linkIn, request, reply, error};
+ghost use Rattle.model.specs.Memory.{linkIn, request, reply, error, airLimit};
 ghost use Rattle.model.specs.Calls.{packet, between};
 ghost use Rattle.network.specs.View.{bodyOf, packetOf, airOf};
 use crate::Air;
 use crate::Packet;
 use crate::RequestNumber;
 use crate::links::joined;
-use crate::places::label_of;
 use crate::places::pair_place;
 use label::Label;
+use label::label_of;
 
 // A request, from nobody to nobody.
 pub fn request(
@@ -105,7 +105,7 @@ fn remove_from(packets: &mut [Packet], last: usize, k: usize)
 
 // The air with p last.
 pub fn append(mut air: Air, p: Packet) -> Air
-    requires { ⌜ air .count < 128 ⌝ }
+    requires { ⌜ air .count < airLimit ⌝ }
     ensures { λ r. ⌜ airOf r ≡ airOf air ++ (packetOf p ∷ []) ⌝ }
 {
     let count = air.count;
@@ -116,7 +116,7 @@ pub fn append(mut air: Air, p: Packet) -> Air
 
 // The air without packet k; later ones move up.
 pub fn remove(mut air: Air, k: usize) -> Air
-    requires { ⌜ (k < air .count) × (air .count ≤ 128) ⌝ }
+    requires { ⌜ (k < air .count) × (air .count ≤ airLimit) ⌝ }
     ensures { λ r. ⌜ airOf r ≡ take k (airOf air) ++ drop (suc k) (airOf air) ⌝ }
 {
     let last = air.count - 1;
@@ -136,7 +136,7 @@ fn is_between(p: Packet, a: u8, b: u8) -> bool
 
 // The air without the packets between a and b, the others in their order.
 pub fn without_between(air: Air, a: u8, b: u8) -> Air
-    requires { ⌜ air .count ≤ 128 ⌝ }
+    requires { ⌜ air .count ≤ airLimit ⌝ }
     ensures { λ r. ⌜ airOf r ≡ keep (λ p. not (between a b p)) (airOf air) ⌝ }
 {
     let count = air.count;
@@ -158,7 +158,7 @@ pub fn without_between(air: Air, a: u8, b: u8) -> Air
 // The air with one copy of p for each up neighbour of a, ascending.
 pub fn broadcast(mut air: Air, links: [bool; 256], n: u8, a: u8, p: Packet) -> Air
     requires { ⌜ (n ≤ 16) × (a < 16) ⌝ }
-    requires { ⌜ air .count + length (below n (linkIn links a)) ≤ 128 ⌝ }
+    requires { ⌜ air .count + length (below n (linkIn links a)) ≤ airLimit ⌝ }
     ensures { λ r. ⌜ airOf r ≡ airOf air ++ map (λ b. packet a b (bodyOf p)) (below n (linkIn links a)) ⌝ }
 {
     let mut count = air.count;

@@ -1,9 +1,6 @@
-// Places in the tables, and the label that stands at one.
+// Places in the tables.
 ghost use mathlib.Core.Path.{_≡_};
-ghost use Rattle.label.specs.Label.{label};
 ghost use Rattle.model.specs.Memory.{place, pairPlace};
-use label::Label;
-use label::SequenceNumber;
 
 // Where what station i holds for station t stands.
 pub fn place(i: u8, t: u8) -> usize
@@ -20,15 +17,4 @@ pub fn pair_place(a: u8, b: u8) -> usize
         return place(a, b);
     }
     place(b, a)
-}
-
-// The label whose s, m and d stand at a place.
-pub fn label_of(s: u64, m: u32, d: u32) -> Label
-    ensures { λ r. ⌜ r ≡ label s m d ⌝ }
-{
-    Label {
-        s: SequenceNumber(s),
-        m: m,
-        d: d,
-    }
 }

@@ -5,27 +5,20 @@ ghost use Prim.Native.Nat.{_^_, _<_, _≤_};
 ghost use lib.Dec.{ltb, leb};
 ghost use lib.ListN.{getD};
 ghost use Rattle.base.specs.Lists.{allBelow, allIn, distinct};
-ghost use Rattle.model.specs.Memory.{stations, successorInRange, rowInRange, recordInRange, ownInRange, cellInRange};
+ghost use Rattle.model.specs.Memory.{stations, successorInRange, rowInRange, recordInRange, ownInRange, cellInRange, rowLimit};
 ghost use Rattle.model.specs.Memory.{headInRange, bodyInRange, packetInRange, airInRange, sizeInRange, memoryInRange};
 ghost use Rattle.network.specs.View.{successor, rowOf, recordOf, bodyOf, packetOf, airOf, view};
+use crate::AIR_LIMIT;
 use crate::Air;
 use crate::Memory;
 use crate::Packet;
+use crate::ROW_LIMIT;
 use crate::Record;
 use crate::Row;
-use crate::places::label_of;
 use crate::rows::find;
 use label::Label;
-
-// Whether n is 2 to 16.
-pub fn size_in_range(n: usize) -> bool
-    ensures { λ r. ⌜ r ≡ sizeInRange n ⌝ }
-{
-    if n < 2 {
-        return false;
-    }
-    n <= 16
-}
+use label::label_of;
+use validation::size_in_range;
 
 // An entry of a row that i holds: another station, and a label in range.
 fn entry_in_range(station: u8, label: Label, n: u8, i: u8) -> bool
@@ -42,7 +35,7 @@ fn entry_in_range(station: u8, label: Label, n: u8, i: u8) -> bool
 
 // Every entry of a row that i holds.
 fn entries_in_range(row: Row, n: u8, i: u8) -> bool
-    requires { ⌜ row .count ≤ 4 ⌝ }
+    requires { ⌜ row .count ≤ rowLimit ⌝ }
     ensures { λ r. ⌜ r ≡ allIn (successorInRange n i) (rowOf row) ⌝ }
 {
     let count = row.count as usize;
@@ -60,7 +53,7 @@ fn entries_in_range(row: Row, n: u8, i: u8) -> bool
 
 // No station is named twice.
 fn named_once(row: Row) -> bool
-    requires { ⌜ row .count ≤ 4 ⌝ }
+    requires { ⌜ row .count ≤ rowLimit ⌝ }
     ensures { λ r. ⌜ r ≡ distinct (stations (rowOf row)) ⌝ }
 {
     let count = row.count as usize;
@@ -79,7 +72,7 @@ fn named_once(row: Row) -> bool
 fn row_in_range(row: Row, n: u8, i: u8) -> bool
     ensures { λ r. ⌜ r ≡ rowInRange n i (rowOf row) ⌝ }
 {
-    if 4 < row.count {
+    if ROW_LIMIT < row.count {
         return false;
     }
     if !named_once(row) {
@@ -215,7 +208,7 @@ fn air_in_range(air: Air, n: u8) -> bool
     requires { ⌜ n ≤ 16 ⌝ }
     ensures { λ r. ⌜ r ≡ airInRange n (airOf air) ⌝ }
 {
-    if 128 < air.count {
+    if AIR_LIMIT < air.count {
         return false;
     }
     let count = air.count as usize;

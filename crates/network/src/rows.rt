@@ -5,16 +5,17 @@ ghost use Prim.Native.Nat.{ℕ, _+_, _^_, _<_, _≤_};
 ghost use lib.ListN.{getD};
 ghost use Rattle.base.specs.Choice.{if_then_else_};
 ghost use Rattle.base.specs.Lists.{someIn, keep, tabulate, indexOf};
-ghost use Rattle.model.specs.Memory.{place, names, without, under, put, withRoom};
+ghost use Rattle.model.specs.Memory.{place, names, without, under, put, withRoom, rowLimit};
 ghost use Rattle.model.specs.Calls.{bit, empties, takeOut, removes, emptied};
 ghost use Rattle.network.specs.View.{zeroRow, successor, entryOf, rowOf, keeps};
+use crate::ROW_LIMIT;
 use crate::Row;
 use crate::places::place;
 use label::Label;
 
 // The place of the first of so many entries that names j, or their number where none does.
 pub fn find(row: Row, count: usize, j: u8) -> usize
-    requires { ⌜ count ≤ 4 ⌝ }
+    requires { ⌜ count ≤ rowLimit ⌝ }
     ensures { λ r. ⌜ r ≡ indexOf (names j) (tabulate count (entryOf row)) ⌝ }
 {
     let mut k = 0;
@@ -30,7 +31,7 @@ pub fn find(row: Row, count: usize, j: u8) -> usize
 
 // The row with one more entry.
 fn push(row: Row, station: u8, label: Label) -> Row
-    requires { ⌜ row .count < 4 ⌝ }
+    requires { ⌜ row .count < rowLimit ⌝ }
     ensures { λ r. ⌜ rowOf r ≡ rowOf row ++ (successor station label ∷ []) ⌝ }
 {
     let count = row.count;
@@ -61,8 +62,8 @@ fn keeps(test: Keep, station: u8, label: Label) -> bool
 }
 
 // The entries that stay.
-pub fn kept(row: Row, test: Keep) -> Row
-    requires { ⌜ row .count ≤ 4 ⌝ }
+pub fn filtered(row: Row, test: Keep) -> Row
+    requires { ⌜ row .count ≤ rowLimit ⌝ }
     ensures { λ r. ⌜ rowOf r ≡ keep (keeps test) (rowOf row) ⌝ }
 {
     let count = row.count as usize;
@@ -82,10 +83,10 @@ pub fn kept(row: Row, test: Keep) -> Row
 
 // The row with room for one more: the first entry leaves a full row.
 fn with_room(row: Row) -> Row
-    requires { ⌜ row .count ≤ 4 ⌝ }
+    requires { ⌜ row .count ≤ rowLimit ⌝ }
     ensures { λ r. ⌜ rowOf r ≡ withRoom (rowOf row) ⌝ }
 {
-    if row.count < 4 {
+    if row.count < ROW_LIMIT {
         return row;
     }
     let x = row.labels[1];
@@ -105,7 +106,7 @@ fn with_room(row: Row) -> Row
 
 // The row with the entry in the place of the one that names its station, or last.
 fn put(row: Row, station: u8, label: Label) -> Row
-    requires { ⌜ row .count ≤ 4 ⌝ }
+    requires { ⌜ row .count ≤ rowLimit ⌝ }
     ensures { λ r. ⌜ rowOf r ≡ put (successor station label) (rowOf row) ⌝ }
 {
     let count = row.count as usize;
@@ -121,37 +122,37 @@ fn put(row: Row, station: u8, label: Label) -> Row
 
 // The row of a station that takes the label g by a reply with the label v from j.
 pub fn adopted(row: Row, g: Label, j: u8, v: Label) -> Row
-    requires { ⌜ row .count ≤ 4 ⌝ }
+    requires { ⌜ row .count ≤ rowLimit ⌝ }
     ensures { λ r. ⌜ rowOf r ≡ put (successor j v) (under g (rowOf row)) ⌝ }
 {
-    put(kept(row, Keep::Under(g)), j, v)
+    put(filtered(row, Keep::Under(g)), j, v)
 }
 
 // A row that j left, whether it stood there, and whether that emptied the row.
-pub struct Loss {
+pub struct Removal {
     pub row: Row,
     pub removed: bool,
     pub emptied: bool,
 }
 
 // The row without j.
-pub fn lose(row: Row, j: u8) -> Loss
-    requires { ⌜ row .count ≤ 4 ⌝ }
+pub fn without_station(row: Row, j: u8) -> Removal
+    requires { ⌜ row .count ≤ rowLimit ⌝ }
     ensures row { λ r. ⌜ rowOf (r .row) ≡ without (names j) (rowOf row) ⌝ }
     ensures removed { λ r. ⌜ r .removed ≡ someIn (names j) (rowOf row) ⌝ }
     ensures emptied { λ r. ⌜ r .emptied ≡ empties (names j) (rowOf row) ⌝ }
 {
-    let kept = kept(row, Keep::Without(j));
-    let left = kept.count;
+    let rest = filtered(row, Keep::Without(j));
+    let left = rest.count;
     if left == row.count {
-        return Loss {
-            row: kept,
+        return Removal {
+            row: rest,
             removed: false,
             emptied: false,
         };
     }
-    Loss {
-        row: kept,
+    Removal {
+        row: rest,
         removed: true,
         emptied: left == 0,
     }
@@ -186,7 +187,7 @@ pub struct Cut {
 // The rows with j taken out of those that i holds for the masked destinations below n.
 pub fn take_out(mut rows: [Row; 256], i: u8, j: u8, n: u8, mask: u16) -> Cut
     requires { ⌜ (i < 16) × (n ≤ 16) ⌝ }
-    requires { ⌜ ((t : ℕ) → t < n → getD rows (place i t) zeroRow .count ≤ 4) ⌝ }
+    requires { ⌜ ((t : ℕ) → t < n → getD rows (place i t) zeroRow .count ≤ rowLimit) ⌝ }
     ensures rows { λ r. ⌜ map rowOf (r .rows) ≡ takeOut (bit mask) (names j) i n (map rowOf rows) ⌝ }
     ensures emptied { λ r. ⌜ r .emptied ≡ emptied (bit mask) (names j) i n (map rowOf rows) ⌝ }
     ensures removed { λ r. ⌜ r .removed ≡ removes (bit mask) (names j) i n (map rowOf rows) ⌝ }
@@ -198,11 +199,11 @@ pub fn take_out(mut rows: [Row; 256], i: u8, j: u8, n: u8, mask: u16) -> Cut
         if bit(mask, t) {
             let at = place(i, t);
             let row = rows[at];
-            let loss = lose(row, j);
-            let kept = loss.row;
-            rows[at] = kept;
-            emptied = marked(emptied, t, loss.emptied);
-            removed = removed | loss.removed;
+            let removal = without_station(row, j);
+            let rest = removal.row;
+            rows[at] = rest;
+            emptied = marked(emptied, t, removal.emptied);
+            removed = removed | removal.removed;
         }
         t += 1;
     }

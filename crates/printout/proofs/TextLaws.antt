@@ -9,7 +9,7 @@ use native.Mathlib.Nat.{pow-suc, one-le-pow, pow-le-pow-right}
 use native.Mathlib.Numerals.{add-one, sub-one}
 use native.Mathlib.Omega.{arith}
 use borrow.Author.Tests.{lt-ltb, le-ltb}
-use Rattle.base.proofs.Flags.{choose, Against, less, equal, more, against}
+use Rattle.base.proofs.Booleans.{choose, Trichotomy, less, equal, more, trichotomy}
 use Rattle.base.proofs.Lists.{flat-one}
 use Rattle.codec.proofs.ByteLaws.{sets-append, take-sets}
 use Rattle.io.specs.Digits.{digits, Fewest}
@@ -18,9 +18,9 @@ use Rattle.printout.specs.Contracts.{Puts}
 
 -- The fewest digits that hold a number below 10 ^ k are at most k, and they are its decimal text.
 pub fewest-within : (n r k : ℕ) → Fewest 10 1 n r → 0 < k → n < 10 ^ k → r ≤ k
-fewest-within n r k f h l = go (against r k)
+fewest-within n r k f h l = go (trichotomy r k)
   where
-    go : Against r k → r ≤ k
+    go : Trichotomy r k → r ≤ k
     go (less m) = omega arith
     go (equal e) = omega arith
     go (more m) = absurd (omega (arith, f .2 (omega arith), pow-le-pow-right {n = 10} (omega arith) {i = k} {j = r - 1} (omega arith)))

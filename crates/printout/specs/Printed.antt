@@ -4,16 +4,17 @@ use mathlib.Core.Path.{_≡_}
 use mathlib.Core.Logic.{_≢_}
 use mathlib.Core.List.{List}
 use lib.ListN.{length}
+use Rattle.base.specs.Results.{Result, refused, accepted}
 use Rattle.model.specs.Calls.{trace}
 use Rattle.model.specs.Walks.{WalksEnd}
 use Rattle.model.specs.Events.{afterFirst}
-use Rattle.script.specs.Script.{Script, Ended, refused, done, reading}
+use Rattle.script.specs.Script.{Script, reading}
 use Rattle.printout.specs.Text.{refusalText, rehearsalText}
 
 -- "The rehearsal program reads a script": what it prints of these bytes. It has room for every script, so that 12 is never given.
-unfoldable pub textOf : Ended Script → List ℕ
+unfoldable pub textOf : Result Script → List ℕ
 textOf (refused number) = refusalText number
-textOf (done s) = rehearsalText (s .n) (s .start) (s .kinds) (s .operands)
+textOf (accepted s) = rehearsalText (s .n) (s .start) (s .kinds) (s .operands)
 
 unfoldable pub printed : List ℕ → List ℕ
 printed bytes = textOf (reading bytes 4_096 8_192)
@@ -21,5 +22,5 @@ printed bytes = textOf (reading bytes 4_096 8_192)
 -- Demand 3 of the routes printed: of the network after the script's events, whatever they are.
 unfoldable pub RoutesLoopFree : List ℕ → Type 0
 RoutesLoopFree bytes =
-    (s : Script) → reading bytes 4_096 8_192 ≡ done s → let net = afterFirst (s .n) (s .start) (s .kinds) (s .operands) (length (s .kinds)) in
+    (s : Script) → reading bytes 4_096 8_192 ≡ accepted s → let net = afterFirst (s .n) (s .start) (s .kinds) (s .operands) (length (s .kinds)) in
     (a t : ℕ) → a < net .n → t < net .n → a ≢ t → WalksEnd net a t (trace net a t)

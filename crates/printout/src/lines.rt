@@ -6,7 +6,7 @@ ghost use Prim.Native.Nat.{_+_, _*_, _≤_, _<_};
 ghost use lib.ListN.{length};
 ghost use lib.Dec.{eqb};
 ghost use Rattle.label.specs.Label.{isUnassigned};
-ghost use Rattle.model.specs.Memory.{stations, memoryInRange};
+ghost use Rattle.model.specs.Memory.{stations, memoryInRange, rowLimit};
 ghost use Rattle.model.specs.Printout.{line, labelLine, stationLines, labelLines};
 ghost use Rattle.network.specs.View.{rowOf, view};
 ghost use Rattle.printout.specs.Text.{refusalText, eventText, labelText};
@@ -16,9 +16,9 @@ use crate::text::put_field;
 use crate::text::put_fields;
 use label::Label;
 use label::is_unassigned;
+use label::label_of;
 use network::Memory;
 use network::Row;
-use network::places::label_of;
 use network::places::place;
 
 // The line of a script turned down.
@@ -67,7 +67,7 @@ pub fn put_event_line(
 
 // The line of a label and its row, of at most 69 bytes.
 pub fn put_label_line(out: &mut [u8], at: usize, i: u8, t: u8, label: Label, row: Row) -> usize
-    requires { ⌜ (at + 200 ≤ length (now out)) × (row .count ≤ 4) ⌝ }
+    requires { ⌜ (at + 200 ≤ length (now out)) × (row .count ≤ rowLimit) ⌝ }
     ensures { λ r. ⌜ Puts (now (out .entry)) at (labelText (labelLine i t label (stations (rowOf row)))) r (now (out .exit)) ⌝ }
     ensures { λ r. ⌜ r ≤ at + 69 ⌝ }
 {

@@ -10,9 +10,9 @@ use Rattle.model.specs.Memory as model
 use Rattle.model.specs.Calls.{effect, notOpening, run}
 use Rattle.model.specs.Walks.{Reached}
 use Rattle.model.specs.Events.{eventAt, callsIn, notEvents, afterFirst, running}
-use Rattle.model.proofs.Range.{Kept, kept-in-range}
+use Rattle.model.proofs.Range.{Invariant, invariant-in-range}
 use Rattle.model.proofs.Refusals.{opening-accepted, fresh-reached}
-use Rattle.model.proofs.Steps.{opened-kept}
+use Rattle.model.proofs.Steps.{opened-invariant}
 use Rattle.model.proofs.EventLaws.{after-more, running-10, running-1, running-accepted}
 use Rattle.network.specs.declared.Memory.{Memory}
 use Rattle.network.specs.View.{view}
@@ -30,8 +30,8 @@ module _ (n start : ℕ) (kinds operands : List ℕ) where
   pub ran-none : (next : Memory) → notOpening n start ≡ false → view next ≡ model.fresh n start → Ran n start kinds operands 0 next
   unfolding afterFirst tabulate callsIn run
   ran-none next h e =
-      let kept : Kept ⊥ (model.fresh n start) = opened-kept n start (effect 0 0 (model.fresh n start)) (opening-accepted n start h) in
-      record { ranged = ap memoryInRange e ∙ kept-in-range (model.fresh n start) kept; left = e }
+      let inv : Invariant ⊥ (model.fresh n start) = opened-invariant n start (effect 0 0 (model.fresh n start)) (opening-accepted n start h) in
+      record { ranged = ap memoryInRange e ∙ invariant-in-range (model.fresh n start) inv; left = e }
 
   pub ran-more : (i : ℕ) (next : Memory) (r : Happened) → Ran n start kinds operands i next → Happens next (eventAt kinds operands i) r
       → Ran n start kinds operands (i + 1) (r .memory)

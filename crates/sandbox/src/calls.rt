@@ -2,27 +2,20 @@
 ghost use mathlib.Core.Path.{_≡_};
 ghost use mathlib.Core.Logic.{_≢_};
 ghost use Prim.Native.Nat.{_<_};
-ghost use Rattle.model.specs.Calls.{Open, Up, Down, Solicit, GiveUp, Expire, Deliver, Lose, Duplicate, notOpening, step, traced, trace};
+ghost use Rattle.model.specs.Calls.{Open, Up, Down, Solicit, GiveUp, Expire, Deliver, Lose, Duplicate, step, traced, trace};
 ghost use Rattle.model.specs.Walks.{WalksEnd, Reached};
 ghost use Rattle.network.specs.View.{view};
 ghost use Rattle.steps.specs.Called.{Called};
 use network::Memory;
 use network::opening::fresh;
 use network::range::in_range;
-use network::range::size_in_range;
 use steps::Done;
 use steps::delivery;
 use steps::linking;
 use steps::stations;
 use steps::tracing;
 use steps::tracing::Traced;
-
-// Whether Open is turned down: n is not 2 to 16, or start is 0.
-pub fn open_refused(n: usize, start: u64) -> bool
-    ensures { λ r. ⌜ r ≡ notOpening n start ⌝ }
-{
-    !size_in_range(n) | (start == 0)
-}
+use validation::open_refused;
 
 // Open: fresh memory of n stations. The memory handed in is not read; it is given back where the call is turned down.
 pub fn open(memory: Memory, n: usize, start: u64) -> Done

@@ -4,17 +4,19 @@ ghost use mathlib.Core.Logic.{_≢_};
 ghost use Prim.Native.Nat.{ℕ, _<_};
 ghost use Rattle.model.specs.Calls.{trace};
 ghost use Rattle.model.specs.Walks.{WalksEnd};
-ghost use Rattle.model.specs.Events.{eventOf, notEvents, running};
+ghost use Rattle.model.specs.Events.{eventOf, running};
 ghost use Rattle.network.specs.View.{view};
 ghost use Rattle.steps.specs.Called.{Called};
 ghost use Rattle.steps.specs.Happens.{Happens};
-use crate::calls::open_refused;
 use network::Memory;
 use network::opening::fresh;
 use network::range::in_range;
 use steps::Done;
 use steps::events::Happened;
 use steps::events::event_in_range;
+use validation::all_events;
+use validation::not_events;
+use validation::open_refused;
 
 // An event: the call of its kind on its operands, or a Trace.
 pub fn event(memory: Memory, kind: u8, a: u8, b: u8) -> Happened
@@ -29,16 +31,6 @@ pub fn event(memory: Memory, kind: u8, a: u8, b: u8) -> Happened
         };
     }
     event_in_range(memory, kind, a, b)
-}
-
-// 10: whether there are too many kinds, or the operands are not two for each.
-pub fn not_events(kinds: usize, operands: usize) -> bool
-    ensures { λ r. ⌜ r ≡ notEvents kinds operands ⌝ }
-{
-    if 4096 < kinds {
-        return true;
-    }
-    operands != 2 * kinds
 }
 
 // Events one after the other, from fresh memory of n stations. The memory handed in is not read; it is given back where the run is
@@ -59,6 +51,13 @@ pub fn run(memory: Memory, n: usize, start: u64, kinds: &[u8], operands: &[u8]) 
         return Done {
             memory: memory,
             answer: 1,
+            sent: 0,
+        };
+    }
+    if !all_events(kinds, operands) {
+        return Done {
+            memory: memory,
+            answer: 11,
             sent: 0,
         };
     }

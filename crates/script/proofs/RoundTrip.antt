@@ -12,13 +12,14 @@ use lib.Dec.{ltb, eqb}
 use borrow.Author.Tests.{le-ltb, eq-eqb, ne-eqb, ltb-false, eqb-true, eqb-false, not-true}
 use Rattle.base.proofs.Lists.{all-below-at}
 use Rattle.base.proofs.Loops.{tabulate-length, tabulate-at}
+use Rattle.base.specs.Results.{Result, refused, accepted}
 use Rattle.codec.specs.Bytes.{littleEndian, number, AllBytes}
 use Rattle.codec.proofs.ByteLaws.{over-first, all-bytes, little-length, number-little, little-number, bytes-take, bytes-drop}
 use Rattle.model.specs.Calls.{notOpening}
 use Rattle.model.specs.Events.{Event, noEvent, eventAt, eventsOf, notEvent, notEvents}
 use Rattle.model.proofs.Refusals.{opening-tells}
 use Rattle.model.proofs.EventLaws.{events-tell, event-determines}
-use Rattle.script.specs.Script.{Script, script, encoded, eventCount, decoded, Ended, refused, done, notSized, allEvents, noRoom, reading, writing}
+use Rattle.script.specs.Script.{Script, script, encoded, eventCount, decoded, notSized, allEvents, noRoom, reading, writing}
 use Rattle.script.specs.declared.Found.{Found}
 use Rattle.script.specs.declared.Written.{Written}
 use Rattle.script.specs.Contracts.{Sized, inArrays, Reads, Writes}
@@ -27,15 +28,15 @@ use Rattle.script.proofs.ScriptLaws.{sized-tell, kinds-length, operands
 use Rattle.script.proofs.ScriptLaws.{Listed, WritingEnds, refuses-writing, writes, writing-ends, writing-done, writes-answer, events-length}
 
 -- What is turned down is not done, and what is done is one thing.
-abbrev isDone : {A : Type 0} → Ended A → Bool
+abbrev isDone : {A : Type 0} → Result A → Bool
 isDone (refused number) = false
-isDone (done x) = true
+isDone (accepted x) = true
 
-abbrev valueOf : {A : Type 0} → A → Ended A → A
+abbrev valueOf : {A : Type 0} → A → Result A → A
 valueOf x (refused number) = x
-valueOf x (done y) = y
+valueOf x (accepted y) = y
 
-same-value : {A : Type 0} (x y : A) → done x ≡ done y → x ≡ y
+same-value : {A : Type 0} (x y : A) → accepted x ≡ accepted y → x ≡ y
 same-value x y e = ap (valueOf x) e
 
 -- Sizes that pass.
@@ -48,7 +49,7 @@ unfolding noRoom
 room-enough events kinds operands h k = rw (le-ltb kinds events h, le-ltb operands (2 * events) k)
 
 -- What a script passed that was read, and one that was written.
-module _ (bytes : List ℕ) (s : Script) (kinds operands : ℕ) (e : reading bytes kinds operands ≡ done s) where
+module _ (bytes : List ℕ) (s : Script) (kinds operands : ℕ) (e : reading bytes kinds operands ≡ accepted s) where
   record Readable : Type 0 where
     is-sized : Sized bytes
     opens : notOpening (s .n) (s .start) ≡ false
@@ -70,10 +71,10 @@ module _ (bytes : List ℕ) (s : Script) (kinds operands : ℕ) (e : reading byt
           }
 
 -- A script that was read opens a network.
-pub read-opens : (bytes : List ℕ) (s : Script) (kinds operands : ℕ) → reading bytes kinds operands ≡ done s → notOpening (s .n) (s .start) ≡ false
+pub read-opens : (bytes : List ℕ) (s : Script) (kinds operands : ℕ) → reading bytes kinds operands ≡ accepted s → notOpening (s .n) (s .start) ≡ false
 read-opens bytes s kinds operands e = readable bytes s kinds operands e .opens
 
-module _ (s : Script) (bytes : List ℕ) (room : ℕ) (e : writing s room ≡ done bytes) where
+module _ (s : Script) (bytes : List ℕ) (room : ℕ) (e : writing s room ≡ accepted bytes) where
   record Writable : Type 0 where
     is-listed : Listed s room
     is-encoded : encoded s ≡ bytes
@@ -138,7 +139,7 @@ module _ (s : Script) where
 
 -- What is written reads back.
 written-reads : (s : Script) (bytes : List ℕ) (room kinds operands : ℕ) → s .start < 256 ^ 8
-    → writing s room ≡ done bytes → length (s .kinds) ≤ kinds → length (s .operands) ≤ operands → reading bytes kinds operands ≡ done s
+    → writing s room ≡ accepted bytes → length (s .kinds) ≤ kinds → length (s .operands) ≤ operands → reading bytes kinds operands ≡ accepted s
 written-reads s bytes room kinds operands hs e hk ho =
     let w = writable s bytes room e in
     let events = length (s .kinds) in
@@ -154,7 +155,7 @@ written-reads s bytes room kinds operands hs e hk ho =
     let h12 : noRoom (eventCount (encoded s)) kinds operands ≡ false = ap (λ (k : ℕ). noRoom k kinds operands) count ∙ room-enough events kinds operands hk (omega (arith, t .1, ho)) in
     let h1 : notOpening (decoded (encoded s) .n) (decoded (encoded s) .start) ≡ false = ap (λ (x : Script). notOpening (x .n) (x .start)) same ∙ w .is-listed .opens in
     let h11 : allEvents (decoded (encoded s) .kinds) (decoded (encoded s) .operands) ≡ true = ap (λ (x : Script). allEvents (x .kinds) (x .operands)) same ∙ w .is-listed .all in
-    ap (λ (l : List ℕ). reading l kinds operands) (sym (w .is-encoded)) ∙ reading-done (encoded s) kinds operands (record { long = h9; counted = h10; opens = h1 }) h11 h12 ∙ ap done same
+    ap (λ (l : List ℕ). reading l kinds operands) (sym (w .is-encoded)) ∙ reading-done (encoded s) kinds operands (record { long = h9; counted = h10; opens = h1 }) h11 h12 ∙ ap accepted same
 
 -- A number's bytes in a script are those that it is read from.
 part : (l : List ℕ) (at width : ℕ) → AllBytes l → at + width ≤ length l → littleEndian width (number (take width (drop at l))) ≡ take width (drop at l)
@@ -180,7 +181,7 @@ encoded-decoded bytes b h =
 
 -- What reads is written back.
 read-writes : (bytes : List ℕ) (s : Script) (room kinds operands : ℕ) → AllBytes bytes
-    → reading bytes kinds operands ≡ done s → length bytes ≤ room → writing s room ≡ done bytes
+    → reading bytes kinds operands ≡ accepted s → length bytes ≤ room → writing s room ≡ accepted bytes
 unfolding notEvents
 read-writes bytes s room kinds operands b e hr =
     let r = readable bytes s kinds operands e in
@@ -191,7 +192,7 @@ read-writes bytes s room kinds operands b e hr =
     let h10 : notEvents (length (s .kinds)) (length (s .operands)) ≡ false =
     rw (le-ltb 4_096 (length (s .kinds)) (omega (arith, k, t .0)), eq-eqb (length (s .operands)) (2 * length (s .kinds)) (omega (arith, k, o))) in
     let h12 : ltb room (11 + 3 * length (s .kinds)) ≡ false = le-ltb room (11 + 3 * length (s .kinds)) (omega (arith, k, t .1, hr)) in
-    writing-done s room h10 (r .opens) (r .all) h12 ∙ ap done (ap encoded (sym (r .is-decoded)) ∙ encoded-decoded bytes b (r .is-sized))
+    writing-done s room h10 (r .opens) (r .all) h12 ∙ ap accepted (ap encoded (sym (r .is-decoded)) ∙ encoded-decoded bytes b (r .is-sized))
 
 -- The same events have the same kinds and operands.
 module _ (kinds operands kinds′ operands′ : List ℕ) (all : allEvents kinds operands ≡ true) (all′ : allEvents kinds′ operands′ ≡ true)
@@ -234,7 +235,7 @@ module _ (kinds operands kinds′ operands′ : List ℕ) (all : allEvents kinds
 
 -- Scripts that read as the same events are the same bytes.
 same-script : (bytes bytes′ : List ℕ) (s s′ : Script) (kinds operands kinds′ operands′ : ℕ) → AllBytes bytes → AllBytes bytes′
-    → reading bytes kinds operands ≡ done s → reading bytes′ kinds′ operands′ ≡ done s′
+    → reading bytes kinds operands ≡ accepted s → reading bytes′ kinds′ operands′ ≡ accepted s′
     → s .n ≡ s′ .n → s .start ≡ s′ .start → events s ≡ events s′ → bytes ≡ bytes′
 unfolding events
 same-script bytes bytes′ s s′ kinds operands kinds′ operands′ b b′ e e′ hn hs he =
@@ -254,17 +255,17 @@ determined = record { written-reads = written-reads; read-writes = read-writes; 
 
 -- On the code: what `write` wrote reads back as what it was given, and what `read` left in its arrays is written back to the same bytes.
 pub write-read : (s : Script) (out out′ : List ℕ) (r : Written) (kinds operands : ℕ) → s .start < 256 ^ 8 → Writes (writing s (length out)) out r out′
-    → r .answer ≡ 0 → length (s .kinds) ≤ kinds → length (s .operands) ≤ operands → reading (take (r .length) out′) kinds operands ≡ done s
+    → r .answer ≡ 0 → length (s .kinds) ≤ kinds → length (s .operands) ≤ operands → reading (take (r .length) out′) kinds operands ≡ accepted s
 unfolding Writes
 write-read s out out′ r kinds operands hs h z hk ho =
     let e = writes-answer s out out′ r h z in
-    let w = subst (λ (x : Ended (List ℕ)). Writes x out r out′) e h in
+    let w = subst (λ (x : Result (List ℕ)). Writes x out r out′) e h in
     let first = over-first (encoded s) out out′ (r .length) (w .1) (ap (λ (x : Written). x .length) (w .0)) in
     ap (λ (l : List ℕ). reading l kinds operands) (first .1) ∙ written-reads s (encoded s) (length out) kinds operands hs e hk ho
 
 pub read-write : (bytes kinds operands kinds′ operands′ : List ℕ) (r : Found) (room : ℕ) → AllBytes bytes
     → Reads (reading bytes (length kinds) (length operands)) kinds operands r kinds′ operands′ → r .answer ≡ 0 → length bytes ≤ room
-    → writing (inArrays r kinds′ operands′) room ≡ done bytes
+    → writing (inArrays r kinds′ operands′) room ≡ accepted bytes
 read-write bytes kinds operands kinds′ operands′ r room b h z hr =
     let w = reads-script bytes kinds operands r kinds′ operands′ h z in
     let s = decoded bytes in
@@ -278,7 +279,7 @@ module _ (s : Script) (out out′ : List ℕ) (r : Written) where
   HasWritten = Writes (writing s (length out)) out r out′
 
   abbrev pub ReadBack : Type 0
-  ReadBack = r .answer ≡ 0 → reading (take (r .length) out′) (length (s .kinds)) (length (s .operands)) ≡ done s
+  ReadBack = r .answer ≡ 0 → reading (take (r .length) out′) (length (s .kinds)) (length (s .operands)) ≡ accepted s
 
   pub with-read-back : Fits w64 (s .start) → HasWritten → HasWritten × ReadBack
   with-read-back hs h =
@@ -289,7 +290,7 @@ module _ (bytes kinds operands kinds′ operands′ : List ℕ) (r : Found) wher
   HasRead = Reads (reading bytes (length kinds) (length operands)) kinds operands r kinds′ operands′
 
   abbrev pub WrittenBack : Type 0
-  WrittenBack = r .answer ≡ 0 → writing (inArrays r kinds′ operands′) (length bytes) ≡ done bytes
+  WrittenBack = r .answer ≡ 0 → writing (inArrays r kinds′ operands′) (length bytes) ≡ accepted bytes
 
   pub with-written-back : ((i : ℕ) → Fits w8 (getD bytes i 0)) → HasRead → HasRead × WrittenBack
   with-written-back b h = (h, λ z. read-write bytes kinds operands kinds′ operands′ r (length bytes) (all-bytes bytes b) h z (omega arith))

@@ -9,7 +9,8 @@ use lib.Seq.{sets, length-take-le, take-all}
 use lib.Dec.{ltb, eqb}
 use native.Mathlib.Omega.{arith}
 use borrow.Author.Tests.{ltb-false, eqb-true, not-false}
-use Rattle.base.proofs.Flags.{neither}
+use Rattle.base.proofs.Booleans.{neither}
+use Rattle.base.specs.Results.{Result, refused, accepted}
 use Rattle.codec.specs.Bytes.{littleEndian, number, over}
 use Rattle.codec.proofs.ByteLaws.{sets-append, sets-over}
 use Rattle.model.specs.Calls.{notOpening}
@@ -17,7 +18,7 @@ use Rattle.model.specs.Events.{notEvents}
 use Rattle.model.proofs.EventLaws.{events-tell}
 use Rattle.script.specs.declared.Found.{Found}
 use Rattle.script.specs.declared.Written.{Written}
-use Rattle.script.specs.Script.{Script, encoded, eventCount, decoded, Ended, refused, done}
+use Rattle.script.specs.Script.{Script, encoded, eventCount, decoded}
 use Rattle.script.specs.Script.{notSized, allEvents, noRoom, reading, writing}
 use Rattle.script.specs.Contracts.{found, Sized, Sizes, turned-down, passes, Reads, written, Writes}
 
@@ -66,7 +67,7 @@ module _ (bytes : List ℕ) where
     reading-12 s e h = rw (s .long, s .counted, s .opens, e, h)
 
     pub reading-done : Sized bytes → allEvents (decoded bytes .kinds) (decoded bytes .operands) ≡ true → noRoom (eventCount bytes) kinds operands ≡ false
-        → reading bytes kinds operands ≡ done (decoded bytes)
+        → reading bytes kinds operands ≡ accepted (decoded bytes)
     unfolding reading
     reading-done s e h = rw (s .long, s .counted, s .opens, e, h)
 
@@ -139,7 +140,7 @@ module _ (bytes : List ℕ) where
 
 -- The contract of reading, by how it ends.
 module _ (bytes kinds operands : List ℕ) (r : Found) where
-  abbrev Holds : (kinds′ operands′ : List ℕ) → Ended Script → Type 0
+  abbrev Holds : (kinds′ operands′ : List ℕ) → Result Script → Type 0
   Holds kinds′ operands′ e = Reads e kinds operands r kinds′ operands′
 
   pub reads-refused : (number : ℕ) → reading bytes (length kinds) (length operands) ≡ refused number → r ≡ found 0 0 number 0
@@ -176,7 +177,7 @@ module _ (bytes kinds operands : List ℕ) (r : Found) where
       go (reads s a k) = absurd (z (ap (λ (x : Found). x .answer) (subst (Holds kinds′ operands′) (reading-done bytes (length kinds) (length operands) s a k) h .0)))
 
   pub record InArrays (kinds′ operands′ : List ℕ) : Type 0 where
-    pub ended : reading bytes (length kinds) (length operands) ≡ done (decoded bytes)
+    pub ended : reading bytes (length kinds) (length operands) ≡ accepted (decoded bytes)
     pub sized : Sized bytes
     pub n : r .n ≡ decoded bytes .n
     pub start : r .start ≡ decoded bytes .start
@@ -226,7 +227,7 @@ module _ (s : Script) where
     writing-12 h k l m = rw (h, k, l, m)
 
     pub writing-done : notEvents (length (s .kinds)) (length (s .operands)) ≡ false → notOpening (s .n) (s .start) ≡ false → allEvents (s .kinds) (s .operands) ≡ true
-        → ltb room (11 + 3 * length (s .kinds)) ≡ false → writing s room ≡ done (encoded s)
+        → ltb room (11 + 3 * length (s .kinds)) ≡ false → writing s room ≡ accepted (encoded s)
     unfolding writing
     writing-done h k l m = rw (h, k, l, m)
 
@@ -283,11 +284,11 @@ module _ (s : Script) where
         rw (writing-done (length out) h k l m) (e ∙ rw many, p ∙ sets-over out (encoded s) (omega (arith, ltb-false (length out) _ m)))
 
   -- What a caller learns: with the answer 0 the script is written.
-  pub writes-answer : (out out′ : List ℕ) (r : Written) → Writes (writing s (length out)) out r out′ → r .answer ≡ 0 → writing s (length out) ≡ done (encoded s)
+  pub writes-answer : (out out′ : List ℕ) (r : Written) → Writes (writing s (length out)) out r out′ → r .answer ≡ 0 → writing s (length out) ≡ accepted (encoded s)
   unfolding Writes
   writes-answer out out′ r h z = go (writing-ends (length out))
     where
-      go : WritingEnds (length out) → writing s (length out) ≡ done (encoded s)
+      go : WritingEnds (length out) → writing s (length out) ≡ accepted (encoded s)
       go (refuses-writing number p e) =
-          absurd (omega (arith, p, z, ap (λ (x : Written). x .answer) (subst (λ (x : Ended (List ℕ)). Writes x out r out′) e h .0)))
+          absurd (omega (arith, p, z, ap (λ (x : Written). x .answer) (subst (λ (x : Result (List ℕ)). Writes x out r out′) e h .0)))
       go (writes l) = writing-done (length out) (l .counted) (l .opens) (l .all) (l .fits)

@@ -5,11 +5,12 @@ use mathlib.Core.Bool.{false}
 use mathlib.Core.List.{List}
 use lib.ListN.{length, take}
 use lib.Dec.{ltb}
+use Rattle.base.specs.Results.{Result, refused, accepted}
 use Rattle.codec.specs.Bytes.{over}
 use Rattle.model.specs.Calls.{notOpening}
 use Rattle.script.specs.declared.Found.{Found}
 use Rattle.script.specs.declared.Written.{Written}
-use Rattle.script.specs.Script.{Script, script, eventCount, decoded, Ended, refused, done, notSized, reading}
+use Rattle.script.specs.Script.{Script, script, eventCount, decoded, notSized, reading}
 
 abbrev pub found : (start events answer n : ℕ) → Found
 found start events answer n = record { start = start; events = events; answer = answer; n = n }
@@ -27,9 +28,9 @@ pub data Sizes (bytes : List ℕ) (r : Found) : Type 0 where
 
 -- Reading gave r and left the two lent arrays so. Turned down, the arrays are as they were. Read, exactly E kinds and 2E operands are
 -- written, and the places past them kept.
-unfoldable pub Reads : Ended Script → (kinds operands : List ℕ) → Found → (kinds′ operands′ : List ℕ) → Type 0
+unfoldable pub Reads : Result Script → (kinds operands : List ℕ) → Found → (kinds′ operands′ : List ℕ) → Type 0
 Reads (refused number) kinds operands r kinds′ operands′ = (r ≡ found 0 0 number 0) × (kinds′ ≡ kinds) × (operands′ ≡ operands)
-Reads (done s) kinds operands r kinds′ operands′ =
+Reads (accepted s) kinds operands r kinds′ operands′ =
     (r ≡ found (s .start) (length (s .kinds)) 0 (s .n)) × (kinds′ ≡ over (s .kinds) kinds) × (operands′ ≡ over (s .operands) operands)
 
 -- The script that reading left at the start of the two arrays.
@@ -40,6 +41,6 @@ abbrev pub written : (length answer : ℕ) → Written
 written length answer = record { length = length; answer = answer }
 
 -- Writing gave r and left the lent array so.
-unfoldable pub Writes : Ended (List ℕ) → (out : List ℕ) → Written → (out′ : List ℕ) → Type 0
+unfoldable pub Writes : Result (List ℕ) → (out : List ℕ) → Written → (out′ : List ℕ) → Type 0
 Writes (refused number) out r out′ = (r ≡ written 0 number) × (out′ ≡ out)
-Writes (done bytes) out r out′ = (r ≡ written (length bytes) 0) × (out′ ≡ over bytes out)
+Writes (accepted bytes) out r out′ = (r ≡ written (length bytes) 0) × (out′ ≡ over bytes out)

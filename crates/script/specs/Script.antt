@@ -6,6 +6,7 @@ use lib.ListN.{length, getD, take, drop}
 use lib.Dec.{ltb, eqb}
 use Rattle.base.specs.Choice.{if_then_else_}
 use Rattle.base.specs.Lists.{allBelow}
+use Rattle.base.specs.Results.{Result, refused, accepted}
 use Rattle.codec.specs.Bytes.{littleEndian, number}
 use Rattle.model.specs.Calls.{notOpening}
 use Rattle.model.specs.Events.{notEvent, notEvents}
@@ -36,9 +37,9 @@ decoded bytes =
     script (number (take 1 bytes)) (number (take 8 (drop 3 bytes))) (take events (drop 11 bytes)) (drop (11 + events) bytes)
 
 -- How reading or writing ends: turned down with a number, or done.
-pub data Ended (A : Type 0) : Type 0 where
-  refused : (number : ℕ) → Ended A
-  done : A → Ended A
+pub data Result (A : Type 0) : Type 0 where
+  refused : (number : ℕ) → Result A
+  accepted : A → Result A
 
 -- 10: "events over 4,096, script not 11 + 3E bytes".
 unfoldable pub notSized : (events bytes : ℕ) → Bool
@@ -53,7 +54,7 @@ unfoldable pub noRoom : (events kinds operands : ℕ) → Bool
 noRoom events kinds operands = ltb kinds events || ltb operands (2 * events)
 
 -- "Reading a script tests 9, 10, 1, 11, 12": into arrays of so many places.
-unfoldable pub reading : (bytes : List ℕ) (kinds operands : ℕ) → Ended Script
+unfoldable pub reading : (bytes : List ℕ) (kinds operands : ℕ) → Result Script
 reading bytes kinds operands =
     let events = eventCount bytes in
     let s = decoded bytes in
@@ -62,13 +63,13 @@ reading bytes kinds operands =
     else if notOpening (s .n) (s .start) then refused 1
     else if not (allEvents (s .kinds) (s .operands)) then refused 11
     else if noRoom events kinds operands then refused 12
-    else done s
+    else accepted s
 
 -- "writing 10, 1, 11, 12": into an array of so many bytes.
-unfoldable pub writing : Script → (bytes : ℕ) → Ended (List ℕ)
+unfoldable pub writing : Script → (bytes : ℕ) → Result (List ℕ)
 writing s bytes =
     if notEvents (length (s .kinds)) (length (s .operands)) then refused 10
     else if notOpening (s .n) (s .start) then refused 1
     else if not (allEvents (s .kinds) (s .operands)) then refused 11
     else if ltb bytes (11 + 3 * length (s .kinds)) then refused 12
-    else done (encoded s)
+    else accepted (encoded s)

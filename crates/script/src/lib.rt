@@ -3,14 +3,16 @@ ghost use mathlib.Core.Path.{_≡_};
 ghost use Prim.Native.Nat.{_+_, _*_, _≤_};
 ghost use lib.ListN.{length, take};
 ghost use lib.Seq.{sets};
-ghost use Rattle.script.specs.Script.{script, encoded, done, notSized, allEvents, noRoom, reading, writing};
+ghost use Rattle.base.specs.Results.{accepted};
+ghost use Rattle.script.specs.Script.{script, encoded, notSized, allEvents, noRoom, reading, writing};
 ghost use Rattle.script.specs.Contracts.{found, written, inArrays, Sizes, Reads, Writes};
 use codec::number_at;
 use codec::put_bytes;
 use codec::put_number;
-use sandbox::calls::open_refused;
-use sandbox::events::not_events;
-use steps::events::not_event;
+use validation::EVENT_LIMIT;
+use validation::all_events;
+use validation::not_events;
+use validation::open_refused;
 
 // What reading gives: the start, the number of events and n; or the number of the refusal, and zeros.
 pub struct Found {
@@ -50,27 +52,10 @@ fn not_written(answer: u32) -> Written
 fn not_sized(events: usize, bytes: usize) -> bool
     ensures { λ r. ⌜ r ≡ notSized events bytes ⌝ }
 {
-    if 4096 < events {
+    if EVENT_LIMIT < events {
         return true;
     }
     bytes != 11 + 3 * events
-}
-
-// 11: whether every one is an event.
-fn all_events(kinds: &[u8], operands: &[u8]) -> bool
-    requires { ⌜ 2 * length (now kinds) ≤ length (now operands) ⌝ }
-    ensures { λ r. ⌜ r ≡ allEvents (now (kinds .entry)) (now (operands .entry)) ⌝ }
-{
-    let mut i = 0;
-    while i < kinds.len() {
-        let kind = kinds[i];
-        let b = operands[2 * i + 1];
-        if not_event(kind, b) {
-            return false;
-        }
-        i += 1;
-    }
-    true
 }
 
 // 12: whether a lent array is too short for the kinds or the operands of so many events.
@@ -110,7 +95,7 @@ pub fn read(script: &[u8], kinds: &mut [u8], operands: &mut [u8]) -> Found
     ensures read { λ r. ⌜ Reads (reading (now (script .entry)) (length (now (kinds .entry))) (length (now (operands .entry))))
         (now (kinds .entry)) (now (operands .entry)) r (now (kinds .exit)) (now (operands .exit)) ⌝ }
     ensures written_back { λ r. ⌜ (r .answer ≡ 0
-        → writing (inArrays r (now (kinds .exit)) (now (operands .exit))) (length (now (script .entry))) ≡ done (now (script .entry))) ⌝ }
+        → writing (inArrays r (now (kinds .exit)) (now (operands .exit))) (length (now (script .entry))) ≡ accepted (now (script .entry))) ⌝ }
 {
     let sized = sizes(script);
     let answer = sized.answer;
@@ -150,7 +135,7 @@ pub fn write(n: usize, start: u64, kinds: &[u8], operands: &[u8], out: &mut [u8]
         (now (out .entry)) r (now (out .exit)) ⌝ }
     ensures read_back { λ r. ⌜ (r .answer ≡ 0
         → reading (take (r .length) (now (out .exit))) (length (now (kinds .entry))) (length (now (operands .entry)))
-        ≡ done (script n start (now (kinds .entry)) (now (operands .entry)))) ⌝ }
+        ≡ accepted (script n start (now (kinds .entry)) (now (operands .entry)))) ⌝ }
 {
     if not_events(kinds.len(), operands.len()) {
         return not_written(10);

@@ -10,7 +10,7 @@ use native.Mathlib.Omega.{arith}
 use lib.Dec.{eqb}
 use borrow.Author.Tests.{ne-eqb}
 use Rattle.base.specs.Lists.{below}
-use Rattle.base.proofs.Flags.{choose}
+use Rattle.base.proofs.Booleans.{choose}
 use Rattle.base.proofs.Loops.{below-length}
 use Rattle.label.specs.declared.Label.{Label}
 use Rattle.model.specs.Memory as model

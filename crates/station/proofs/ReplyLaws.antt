@@ -33,11 +33,11 @@ module _ (net : Network) (p : Packet) (h : Holding) (k : Holds net p h) where
       (rw (set-getD (net .records) (place (p .receiver) (p .source)) model.zeroRecord)
       (settled (p .receiver) (eqb (p .receiver) (p .source)) (adopt (p .receiver) (p .sender) (replyOf p) g net)))
 
-  -- A reply that is stray, and one that matches.
-  pub reply-stray : eqb (p .receiver) (p .destination) || not (matches (p .receiver) (replyOf p) net) ≡ true
+  -- A reply that is discarded, and one that matches.
+  pub reply-discarded : eqb (p .receiver) (p .destination) || not (matches (p .receiver) (replyOf p) net) ≡ true
       → effect 111 0 net ≡ onReply (p .receiver) (p .sender) (replyOf p) net
   unfolding onReply replyOf
-  reply-stray e = rw e
+  reply-discarded e = rw e
 
   pub reply-matched : (c : Label) (o : Outcome) → c ≡ cachedAt (p .receiver) (replyOf p) net → o ≡ newLabel (h .label) c (p .label)
       → eqb (p .receiver) (p .destination) || not (matches (p .receiver) (replyOf p) net) ≡ false

@@ -24,7 +24,7 @@ module _ (net : Network) (p : Packet) (h : Holding) (k : Holds net p h) where
   request-known e = rw (k .record-is, e)
 
   pub request-new : eqb (p .receiver) (p .source) || leb (p .number .0) (h .kept .number .0) ≡ false
-      → engage (p .receiver) (p .sender) (requestOf p) (setRecord (p .receiver) (p .source) (calls.recordOf (p .sender) (requestOf p)) net)
+      → engage (p .receiver) (p .sender) (requestOf p) (setRecord (p .receiver) (p .source) (calls.recorded (p .sender) (requestOf p)) net)
       ≡ onRequest (p .receiver) (p .sender) (requestOf p) net
   unfolding onRequest requestOf recordOf
   request-new e = rw (k .record-is, e)

@@ -4,13 +4,13 @@ use mathlib.Core.Path.{_≡_}
 use mathlib.Core.Logic.{_≢_}
 use mathlib.Core.Bool.{true}
 use Rattle.label.specs.Label.{inRange}
-use Rattle.model.specs.Memory.{Network, numberAt, soughtAt}
+use Rattle.model.specs.Memory.{Network, requestNumberAt, soughtAt}
 use Rattle.network.specs.declared.Packet.{Packet}
 use Rattle.station.specs.declared.Holding.{Holding}
 
 -- The last request of p's receiver: its number and its destination.
 pub record LastRequest (net : Network) (p : Packet) (number sought : ℕ) : Type 0 where
-  pub number-is : numberAt net (p .receiver) ≡ number
+  pub number-is : requestNumberAt net (p .receiver) ≡ number
   pub sought-is : soughtAt net (p .receiver) ≡ sought
 
 -- What memory in range gives to the receiver of a reply. A station's record for itself is not range-tested.

@@ -5,7 +5,7 @@ ghost use mathlib.Core.Bool.{true, not, _||_};
 ghost use Prim.Native.Nat.{_<_, _≤_};
 ghost use lib.Dec.{eqb};
 ghost use Rattle.label.specs.Label.{inRange, outcome};
-ghost use Rattle.model.specs.Memory.{Network};
+ghost use Rattle.model.specs.Memory.{Network, rowLimit};
 ghost use Rattle.model.specs.Calls.{matches, cachedAt, adopt, settle, passesOn, passOn, onOutcome, onReply};
 ghost use Rattle.network.specs.View.{replyOf};
 ghost use Rattle.station.specs.Reacting.{Holds, holding, reacts};
@@ -16,10 +16,10 @@ use crate::reacting::replying;
 use crate::reacting::silent;
 use label::Label;
 use label::NewLabel;
+use label::label_of;
 use network::Packet;
 use network::RequestNumber;
 use network::links::link_up;
-use network::places::label_of;
 use network::rows::adopted;
 
 // Whether V's number and destination both match: at the source its last request, elsewhere its record.
@@ -41,7 +41,7 @@ fn matches(p: Packet, held: Holding, number: RequestNumber, sought: u8) -> bool
 }
 
 // 111: whether i is the destination, or V doesn't match.
-fn is_stray(p: Packet, held: Holding, number: RequestNumber, sought: u8) -> bool
+fn is_discarded(p: Packet, held: Holding, number: RequestNumber, sought: u8) -> bool
     ensures { λ r. ⌜ ((net : Network) → Holds net p held → LastRequest net p (number .0) sought
         → r ≡ eqb (p .receiver) (p .destination) || not (matches (p .receiver) (replyOf p) net)) ⌝ }
 {
@@ -73,7 +73,7 @@ pub struct Settled {
 
 // i takes the label g, with a row under it, and is passive if it is the source.
 fn adopts(p: Packet, held: Holding, g: Label) -> Holding
-    requires { ⌜ held .row .count ≤ 4 ⌝ }
+    requires { ⌜ held .row .count ≤ rowLimit ⌝ }
     ensures { λ r. ⌜ ((net : Network) → Holds net p held → holding p r net ≡ settle (p .receiver) (replyOf p) (adopt (p .receiver) (p .sender) (replyOf p) g net)) ⌝ }
     ensures kept { λ r. ⌜ r .kept ≡ held .kept ⌝ }
 {
@@ -92,7 +92,7 @@ fn adopts(p: Packet, held: Holding, g: Label) -> Holding
 
 // What i holds after New label's outcome: a label taken, or all as it was.
 fn settles(p: Packet, held: Holding, told: NewLabel) -> Settled
-    requires { ⌜ held .row .count ≤ 4 ⌝ }
+    requires { ⌜ held .row .count ≤ rowLimit ⌝ }
     ensures { λ r. ⌜ ((net : Network) → Holds net p held
         → onOutcome (p .receiver) (p .sender) (replyOf p) (outcome told) net ≡ passOn (r .answer) (p .receiver) (replyOf p) (holding p (r .holding) net)) ⌝ }
     ensures kept { λ r. ⌜ r .holding .kept ≡ held .kept ⌝ }
@@ -166,7 +166,7 @@ pub fn on_reply(
     ensures { λ r. ⌜ ((net : Network) → Holds net p held → LastRequest net p (number .0) sought → net .links ≡ links
         → reacts r p net ≡ onReply (p .receiver) (p .sender) (replyOf p) net) ⌝ }
 {
-    if is_stray(p, held, number, sought) {
+    if is_discarded(p, held, number, sought) {
         return silent(p, held, 111);
     }
     let own = held.label;

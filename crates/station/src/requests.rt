@@ -9,16 +9,17 @@ ghost use Rattle.model.specs.Calls as calls;
 ghost use Rattle.model.specs.Calls.{resets, canReply, onwardLabel, onwardReset, onward, atDestination, engage, onRequest};
 ghost use Rattle.network.specs.View.{rowOf, recordOf, requestOf, bodyOf};
 ghost use Rattle.station.specs.Reacting.{Holds, reacts};
+ghost use Rattle.base.specs.Numbers.{maxU32};
 use crate::Holding;
 use crate::Reaction;
 use crate::reacting::replying;
 use crate::reacting::silent;
 use label::Label;
+use label::label_of;
 use network::Packet;
 use network::Record;
 use network::Row;
 use network::packets::request;
-use network::places::label_of;
 
 // 101: whether i is the source, or its record for the source has a number not below R's.
 fn is_known(p: Packet, kept: Record) -> bool
@@ -33,7 +34,7 @@ fn is_known(p: Packet, kept: Record) -> bool
 
 // The record rewritten.
 fn noted(p: Packet) -> Record
-    ensures { λ r. ⌜ recordOf r ≡ calls.recordOf (p .sender) (requestOf p) ⌝ }
+    ensures { λ r. ⌜ recordOf r ≡ calls.recorded (p .sender) (requestOf p) ⌝ }
 {
     let label = p.label;
     let number = p.number;
@@ -94,11 +95,11 @@ fn clears(own: Label, label: Label) -> bool
 }
 
 // Whether it is 1 in any other: R's label isn't above the own, and the two denominators sum past 32 bits.
-fn crowded(own: Label, label: Label) -> bool
-    ensures { λ r. ⌜ r ≡ not (above label own) && ltb 4_294_967_295 (own .d + label .d) ⌝ }
+fn denominators_overflow(own: Label, label: Label) -> bool
+    ensures { λ r. ⌜ r ≡ not (above label own) && ltb maxU32 (own .d + label .d) ⌝ }
 {
     let d = label::sum(own.d, label.d);
-    !label::is_above(label, own) & (4294967295 < d)
+    !label::is_above(label, own) & ((u32::MAX as u64) < d)
 }
 
 // The bit that goes on.
@@ -110,7 +111,7 @@ fn onward_reset(own: Label, p: Packet) -> bool
     if clears(own, label) {
         return false;
     }
-    if crowded(own, label) {
+    if denominators_overflow(own, label) {
         return true;
     }
     reset

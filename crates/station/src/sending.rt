@@ -3,7 +3,7 @@ ghost use mathlib.Core.Path.{_≡_};
 ghost use mathlib.Core.List.{_++_};
 ghost use Prim.Native.Nat.{ℕ, _+_, _<_, _≤_};
 ghost use lib.ListN.{length};
-ghost use Rattle.model.specs.Memory.{Network, error};
+ghost use Rattle.model.specs.Memory.{Network, error, airLimit};
 ghost use Rattle.model.specs.Calls.{errors};
 ghost use Rattle.network.specs.declared.Packet.{Packet};
 ghost use Rattle.network.specs.View.{bodyOf, airOf};
@@ -31,7 +31,7 @@ pub fn copies(scope: u8, links: [bool; 256], n: u8, a: u8, p: Packet) -> u8
 // The air with these packets last.
 pub fn transmit(air: Air, scope: u8, links: [bool; 256], n: u8, a: u8, p: Packet) -> Air
     requires { ⌜ (n ≤ 16) × (a < 16) ⌝ }
-    requires { ⌜ air .count + length (sentBy scope links n a p) ≤ 128 ⌝ }
+    requires { ⌜ air .count + length (sentBy scope links n a p) ≤ airLimit ⌝ }
     ensures { λ r. ⌜ airOf r ≡ airOf air ++ sentBy scope links n a p ⌝ }
 {
     if scope == 0 {

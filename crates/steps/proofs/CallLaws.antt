@@ -5,8 +5,9 @@ use mathlib.Core.Logic.{_≢_}
 use mathlib.Core.Bool.{Bool, true, false}
 use mathlib.Core.List.{List}
 use native.Mathlib.Omega.{arith}
+use Rattle.base.specs.Results.{Result, refused, accepted}
 use Rattle.model.specs.Memory.{Network, memoryInRange}
-use Rattle.model.specs.Calls.{Call, Effect, effect, Result, refused, accepted, after, notPair, step}
+use Rattle.model.specs.Calls.{Call, Effect, effect, after, notPair, step}
 use Rattle.model.proofs.Range.{Sized}
 use Rattle.model.proofs.Refusals.{pair-tells, OnMemory, out-of-range}
 use Rattle.model.proofs.Steps.{accepted-in-range}
@@ -63,12 +64,12 @@ called-as memory c d r e h = subst (λ z. Called memory (step z (view memory)) r
 
 -- A call leaves the model's network, and memory in range.
 module _ (memory : Memory) where
-  pub called-after : (z : Result) (r : Done) → Called memory z r → view (r .memory) ≡ after (view memory) z
+  pub called-after : (z : Result Effect) (r : Done) → Called memory z r → view (r .memory) ≡ after (view memory) z
   unfolding Called after
   called-after (refused k) r h = ap (λ (d : Done). view (d .memory)) h
   called-after (accepted e) r h = ap (λ (x : Effect). x .net) (h .0)
 
-  pub called-in-range : (z : Result) (r : Done) → Called memory z r → memoryInRange (view memory) ≡ true → memoryInRange (view (r .memory)) ≡ true
+  pub called-in-range : (z : Result Effect) (r : Done) → Called memory z r → memoryInRange (view memory) ≡ true → memoryInRange (view (r .memory)) ≡ true
   unfolding Called
   called-in-range (refused k) r h m = ap (λ (d : Done). memoryInRange (view (d .memory))) h ∙ m
   called-in-range (accepted e) r h m = h .1
@@ -78,7 +79,7 @@ pub called-alike : (x y : Memory) (c : Call) (p q : Done) → view x ≡ view y 
 unfolding Called
 called-alike x y c p q e h k = go (step c (view y)) (subst (λ z. Called x (step c z) p) e h) k
   where
-    go : (z : Result) → Called x z p → Called y z q → effectOf p ≡ effectOf q
+    go : (z : Result Effect) → Called x z p → Called y z q → effectOf p ≡ effectOf q
     go (refused number) a b =
         ap effectOf a ∙ ap (λ (net : Network). effect number 0 net) e ∙ sym (ap effectOf b)
     go (accepted w) a b = a .0 ∙ sym (b .0)

@@ -10,13 +10,15 @@ use lib.Dec.{ltb}
 use borrow.Author.Tests.{lt-ltb, le-ltb, le-leb, ltb-true, ltb-false}
 use Rattle.base.specs.Choice.{if_then_else_}
 use Rattle.base.proofs.Lists.{map-set}
+use Rattle.base.specs.Results.{refused, accepted}
+use Rattle.base.proofs.Results.{refuse-holds, refuse-passes}
 use Rattle.label.specs.declared.Label.{Label}
 use Rattle.model.specs.Memory as model
 use Rattle.model.specs.Memory.{place, names, setLabels, setRows, setRecords, setActives, setAir}
-use Rattle.model.specs.Calls.{Effect, effect, refused, accepted, limited, notPacket, send, sending, takeOut, removes, emptied, errors, bit, errorOutcome, onError}
+use Rattle.model.specs.Calls.{Effect, effect, limited, notPacket, send, sending, takeOut, removes, emptied, errors, bit, errorOutcome, onError}
 use Rattle.model.specs.Calls.{removePacket, receive, deliver}
 use Rattle.model.proofs.Range.{Sized}
-use Rattle.model.proofs.Refusals.{refuse-holds, refuse-passes, sending-7, sending-accepted}
+use Rattle.model.proofs.Refusals.{sending-7, sending-accepted}
 use Rattle.network.specs.declared.Row.{Row}
 use Rattle.network.specs.declared.Packet.{Packet}
 use Rattle.network.specs.declared.Air.{Air}

@@ -6,9 +6,10 @@ use mathlib.Core.List.{[], _∷_}
 use lib.ListN.{length}
 use lib.Dec.{eqb}
 use Rattle.base.specs.Choice.{if_then_else_}
-use Rattle.base.proofs.Flags.{choose}
+use Rattle.base.proofs.Booleans.{choose}
+use Rattle.base.specs.Results.{Result, refused, accepted}
 use Rattle.model.specs.Memory.{memoryInRange}
-use Rattle.model.specs.Calls.{Call, Effect, Result, refused, accepted, step, run, Traced, traced, trace}
+use Rattle.model.specs.Calls.{Call, Effect, step, run, Traced, traced, trace}
 use Rattle.model.specs.Events.{notEvent, callOf, Event, calls, traces, noEvent, eventOf, callsIn}
 use Rattle.model.specs.Printout.{Line, line, resultLine, lineOf}
 use Rattle.model.proofs.Tracing.{trace-out-of-range}
@@ -66,7 +67,7 @@ module _ (memory : Memory) (index kind a b : ℕ) where
   unfolding view
   air-count m = air-length (m .air)
 
-  called-line : (z : Result) (d : Done) → Called memory z d
+  called-line : (z : Result Effect) (d : Done) → Called memory z d
       → resultLine index kind a b (view memory) z ≡ line index kind a b (d .answer) (d .sent) (d .memory .air .count) 0
   unfolding Called resultLine
   called-line (refused number) d h =

@@ -8,9 +8,10 @@ use lib.ListN.{length, getD, set, length-append}
 use native.Mathlib.Omega.{arith}
 use Rattle.base.specs.Lists.{keep}
 use Rattle.base.proofs.Lists.{keep-length}
+use Rattle.base.specs.Results.{refused, accepted}
 use Rattle.model.specs.Memory as model
 use Rattle.model.specs.Memory.{Network, error, place, rowIn, pairPlace, linkUp, names, setRows, setLinks, setAir}
-use Rattle.model.specs.Calls.{effect, refused, accepted, limited, send, sending, errors}
+use Rattle.model.specs.Calls.{effect, limited, send, sending, errors}
 use Rattle.model.specs.Calls.{takeOut, emptied, between, everyDestination, lost, parted, down, bit}
 use Rattle.model.proofs.Links.{link-pair}
 use Rattle.model.proofs.Refusals.{sending-7, sending-accepted, errors-length}

@@ -6,9 +6,10 @@ use mathlib.Core.List.{List, map, _++_}
 use lib.ListN.{length, getD, set, length-map}
 use Rattle.base.specs.Lists.{below}
 use Rattle.base.proofs.Lists.{map-set}
+use Rattle.base.specs.Results.{refused, accepted}
 use Rattle.model.specs.Memory as model
 use Rattle.model.specs.Memory.{place, linkIn, request, setNumbers, setSoughts, setActives, setAir}
-use Rattle.model.specs.Calls.{effect, refused, accepted, limited, packet, send, sending, neighbours, copies, solicit}
+use Rattle.model.specs.Calls.{effect, limited, packet, send, sending, neighbours, copies, solicit}
 use Rattle.model.proofs.Refusals.{sending-7, sending-accepted}
 use Rattle.network.specs.declared.RequestNumber.{RequestNumber}
 use Rattle.network.specs.declared.Air.{Air}

@@ -1,10 +1,8 @@
 -- What the contract of an event says.
 use Prim.Native.Nat.{ℕ}
 use mathlib.Core.Path.{_≡_}
-use Rattle.base.specs.Choice.{if_then_else_}
-use Rattle.model.specs.Memory.{memoryInRange}
 use Rattle.model.specs.Calls.{step, trace}
-use Rattle.model.specs.Events.{Event, calls, traces, noEvent}
+use Rattle.model.specs.Events.{Event, calls, traces, noEvent, noEventAnswer}
 use Rattle.network.specs.declared.Memory.{Memory}
 use Rattle.network.specs.View.{view}
 use Rattle.steps.specs.declared.events.Happened.{Happened}
@@ -17,4 +15,4 @@ happened memory answer sent hops = record { memory = memory; answer = answer; se
 unfoldable pub Happens : Memory → Event → Happened → Type 0
 Happens memory (calls c) r = Called memory (step c (view memory)) (done (r .memory) (r .answer) (r .sent)) × (r .hops ≡ 0)
 Happens memory (traces a t) r = r ≡ happened memory (trace (view memory) a t .answer) 0 (trace (view memory) a t .hops)
-Happens memory noEvent r = r ≡ happened memory (if memoryInRange (view memory) then 11 else 1) 0 0
+Happens memory noEvent r = r ≡ happened memory (noEventAnswer (view memory)) 0 0

@@ -6,17 +6,18 @@ ghost use Prim.Native.Nat.{_<_, _≤_};
 ghost use lib.ListN.{getD};
 ghost use lib.Dec.{ltb};
 ghost use Rattle.base.specs.Choice.{if_then_else_};
-ghost use Rattle.model.specs.Memory.{memoryInRange};
+ghost use Rattle.model.specs.Memory.{memoryInRange, airLimit};
 ghost use Rattle.model.specs.Calls.{errorOutcome, Deliver, Lose, Duplicate, step};
 ghost use Rattle.network.specs.View.{zeroPacket, view};
 ghost use Rattle.steps.specs.Called.{Called};
 use crate::Done;
+use label::label_of;
+use network::AIR_LIMIT;
 use network::Air;
 use network::Memory;
 use network::packets::append;
 use network::packets::error;
 use network::packets::remove;
-use network::places::label_of;
 use network::places::place;
 use network::rows::take_out;
 use station::Holding;
@@ -59,7 +60,7 @@ pub fn deliver_search(mut memory: Memory, k: usize) -> Done
     let scope = reaction.scope;
     let answer = reaction.answer;
     let sent = copies(scope, links, n, i, packet);
-    if 128 < rest.count + sent {
+    if AIR_LIMIT < rest.count + sent {
         return Done {
             memory: memory,
             answer: 7,
@@ -117,7 +118,7 @@ pub fn deliver_error(mut memory: Memory, k: usize) -> Done
     let packet = error(emptied);
     let scope = error_scope(emptied);
     let sent = copies(scope, links, n, i, packet);
-    if 128 < rest.count + sent {
+    if AIR_LIMIT < rest.count + sent {
         return Done {
             memory: memory,
             answer: 7,
@@ -135,7 +136,7 @@ pub fn deliver_error(mut memory: Memory, k: usize) -> Done
 
 // The kind of packet k, or 0 where there is none.
 pub fn kind_of(air: Air, k: usize) -> u8
-    requires { ⌜ air .count ≤ 128 ⌝ }
+    requires { ⌜ air .count ≤ airLimit ⌝ }
     ensures { λ r. ⌜ r ≡ (if ltb k (air .count) then getD (air .packets) k zeroPacket .kind else 0) ⌝ }
 {
     let count = air.count as usize;
@@ -202,7 +203,7 @@ pub fn duplicate(mut memory: Memory, k: usize) -> Done
             sent: 0,
         };
     }
-    if 128 <= count {
+    if AIR_LIMIT <= air.count {
         return Done {
             memory: memory,
             answer: 7,

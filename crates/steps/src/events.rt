@@ -19,13 +19,7 @@ use crate::stations::give_up;
 use crate::stations::solicit;
 use crate::tracing::trace;
 use network::Memory;
-
-// 11: whether the kind is not 1 to 9, or the operand b is not used and not 0.
-pub fn not_event(kind: u8, b: u8) -> bool
-    ensures { λ r. ⌜ r ≡ notEvent kind b ⌝ }
-{
-    (kind == 0) | (9 < kind) | ((kind == 4) | (5 < kind) & (kind < 9)) & (b != 0)
-}
+use validation::not_event;
 
 // Kinds 1 and 2, on memory in range.
 fn link_call(memory: Memory, kind: u8, a: usize, b: usize) -> Done

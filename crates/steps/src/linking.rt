@@ -9,6 +9,7 @@ ghost use Rattle.network.specs.View.{view};
 ghost use Rattle.steps.specs.Called.{Called};
 use crate::Done;
 use crate::stations::not_pair;
+use network::AIR_LIMIT;
 use network::Memory;
 use network::packets::error;
 use network::packets::without_between;
@@ -75,7 +76,7 @@ fn part(mut memory: Memory, a: u8, b: u8) -> Done
     let other = error_scope(gone);
     let sent = copies(scope, links, n, a, p);
     let more = copies(other, links, n, b, q);
-    if 128 < rest.count + sent + more {
+    if AIR_LIMIT < rest.count + sent + more {
         return Done {
             memory: memory,
             answer: 7,

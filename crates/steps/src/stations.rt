@@ -7,12 +7,13 @@ ghost use Rattle.model.specs.Calls.{Solicit, GiveUp, Expire, step};
 ghost use Rattle.network.specs.View.{view};
 ghost use Rattle.steps.specs.Called.{Called};
 use crate::Done;
+use label::label_of;
+use network::AIR_LIMIT;
 use network::Memory;
 use network::RequestNumber;
 use network::links::neighbour_count;
 use network::packets::broadcast;
 use network::packets::request;
-use network::places::label_of;
 use network::places::place;
 
 // 2: whether a is no station.
@@ -52,7 +53,7 @@ pub fn solicit(mut memory: Memory, a: usize, t: usize) -> Done
     }
     let last = memory.numbers[a];
     let number = last.0;
-    if 4294967295 <= number {
+    if u32::MAX <= number {
         return Done {
             memory: memory,
             answer: 8,
@@ -64,7 +65,7 @@ pub fn solicit(mut memory: Memory, a: usize, t: usize) -> Done
     let links = memory.links;
     let air = memory.air;
     let sent = neighbour_count(links, n, source);
-    if 128 < air.count + sent {
+    if AIR_LIMIT < air.count + sent {
         return Done {
             memory: memory,
             answer: 7,

@@ -10,6 +10,7 @@ ghost use Rattle.model.specs.Memory.{Network, place, memoryInRange};
 ghost use Rattle.model.specs.Calls.{traced, hopLimit, follow, trace};
 ghost use Rattle.network.specs.View.{zeroRow, rowOf, view};
 use crate::stations::not_pair;
+use model::most_hops;
 use network::Memory;
 use network::Row;
 use network::places::place;
@@ -39,7 +40,7 @@ fn follow(rows: [Row; 256], n: u8, a: u8, t: u8) -> Traced
     requires { ⌜ ((i : ℕ) → i < n → 0 < getD rows (place i t) zeroRow .count → getD (getD rows (place i t) zeroRow .stations) 0 0 < n) ⌝ }
     ensures { λ r. ⌜ ((net : Network) → net .n ≡ n → net .rows ≡ map rowOf rows → traced (r .answer) (r .hops) ≡ follow (hopLimit net) 0 net a t) ⌝ }
 {
-    let limit = n - 1;
+    let limit = most_hops(n);
     let mut at = a;
     let mut hops = 0;
     while hops < limit {

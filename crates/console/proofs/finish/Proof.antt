@@ -1,7 +1,7 @@
 -- `finish` meets its contract: by the answer, nothing or the whole memory is written.
 use mathlib.Core.Path.{refl}
 use borrow.Author.Needs.{needs}
-use Rattle.base.proofs.Flags.{clash}
+use Rattle.base.proofs.Booleans.{clash}
 use Rattle.model.specs.Calls.{turnsDown}
 use Rattle.console.proofs.finish.Statement.{statement}
 use Rattle.console.proofs.finish.Tie as tie

@@ -1,6 +1,6 @@
 -- `out_of_range` meets its contract: no memory, or by the range test.
 use borrow.Author.Needs.{needs}
-use Rattle.base.proofs.Flags.{was-true, was-false}
+use Rattle.base.proofs.Booleans.{was-true, was-false}
 use Rattle.layout.specs.Stored.{storedNetwork}
 use Rattle.console.specs.Showing.{outOfRange}
 use Rattle.console.proofs.ConsoleLaws.{memory-long}

@@ -2,7 +2,7 @@
 use mathlib.Core.Path.{sym, _∙_}
 use native.Mathlib.Omega.{arith}
 use borrow.Author.Needs.{needs}
-use Rattle.base.proofs.Flags.{was-true, was-false, not-was-true, not-was-false}
+use Rattle.base.proofs.Booleans.{was-true, was-false, not-was-true, not-was-false}
 use Rattle.label.specs.Label.{_≻_}
 use Rattle.label.proofs.New.{new-112, new-113, new-next, new-split-cached, new-own, new-split}
 use Rattle.label.proofs.new_label_in_range.Statement.{statement}

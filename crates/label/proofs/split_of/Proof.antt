@@ -1,4 +1,4 @@
--- `label::split_of` meets its contract: `fitted` at the sums, of which the first is at most the second.
+-- `label::split_of` meets its contract: `fitting` at the sums, of which the first is at most the second.
 use mathlib.Core.Path.{_∙_}
 use native.Mathlib.Omega.{arith}
 use borrow.Author.Needs.{needs}
@@ -13,13 +13,13 @@ sum-requires c κs = search needs
 sum-requires-2 : tie.Need-sum-requires-2
 sum-requires-2 c κs = search needs
 
-fitted-requires : tie.Need-fitted-requires
-fitted-requires c κs =
+fitting-requires : tie.Need-fitting-requires
+fitting-requires c κs =
     omega (arith, range-fraction _ (c .before .before .pre .0), range-fraction _ (c .before .before .pre .1))
 
 returns : tie.Need-returns
 unfolding split
-returns c = c .fitted .ensures ∙ rw (c .before .sum2 .ensures, c .before .before .sum .ensures)
+returns c = c .fitting .ensures ∙ rw (c .before .sum2 .ensures, c .before .before .sum .ensures)
 
 pub split-of-spec : {M : Type 1} → statement M
-split-of-spec = tie.close (tie.spec sum-requires sum-requires-2 fitted-requires returns)
+split-of-spec = tie.close (tie.spec sum-requires sum-requires-2 fitting-requires returns)

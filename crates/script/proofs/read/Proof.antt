@@ -6,7 +6,7 @@ use mathlib.Core.List.{List}
 use lib.ListN.{length}
 use native.Mathlib.Omega.{arith}
 use borrow.Author.Needs.{needs}
-use Rattle.base.proofs.Flags.{was-true, was-false, not-was-true, not-was-false}
+use Rattle.base.proofs.Booleans.{was-true, was-false, not-was-true, not-was-false}
 use Rattle.script.specs.declared.Found.{Found}
 use Rattle.script.specs.Script.{eventCount, decoded, allEvents, noRoom}
 use Rattle.script.proofs.ScriptLaws.{Passed, sizes-passed, kinds-length, operands-length, decoded-fits}

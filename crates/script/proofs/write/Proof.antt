@@ -7,7 +7,7 @@ use lib.ListN.{length}
 use native.Mathlib.Omega.{arith}
 use borrow.Author.Needs.{needs}
 use borrow.Author.Tests.{lt-ltb, le-ltb}
-use Rattle.base.proofs.Flags.{was-true, was-false, not-was-true, not-was-false}
+use Rattle.base.proofs.Booleans.{was-true, was-false, not-was-true, not-was-false}
 use Rattle.model.specs.Calls.{notOpening}
 use Rattle.model.specs.Events.{notEvents}
 use Rattle.model.proofs.EventLaws.{events-tell}

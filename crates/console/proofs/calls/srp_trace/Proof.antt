@@ -3,7 +3,7 @@ use Prim.Native.Nat.{_<_}
 use mathlib.Core.Path.{_≡_, sym, ap, _∙_}
 use mathlib.Core.Bool.{false}
 use borrow.Author.Needs.{needs}
-use Rattle.base.proofs.Flags.{clash, was-true, was-false}
+use Rattle.base.proofs.Booleans.{clash, was-true, was-false}
 use Rattle.model.specs.Calls.{Traced, traced, trace}
 use Rattle.network.specs.View.{view}
 use Rattle.layout.specs.Stored.{storedMemory, storedNetwork}

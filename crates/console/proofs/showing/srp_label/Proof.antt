@@ -5,14 +5,14 @@ use mathlib.Core.Bool.{false}
 use lib.ListN.{length}
 use native.Mathlib.Omega.{arith}
 use borrow.Author.Needs.{needs}
-use Rattle.base.proofs.Flags.{was-true, was-false}
+use Rattle.base.proofs.Booleans.{was-true, was-false}
+use Rattle.base.specs.Results.{accepted}
 use Rattle.label.specs.declared.Label.{Label}
 use Rattle.model.specs.Memory.{place}
 use Rattle.layout.specs.Places.{layoutLength, labelsAt}
 use Rattle.layout.specs.Stored.{storedLabel, storedNetwork}
 use Rattle.layout.specs.Written.{labelBytes}
 use Rattle.layout.proofs.EntryLaws.{label-wide}
-use Rattle.script.specs.Script.{done}
 use Rattle.console.specs.Showing.{outOfRange, showLabel}
 use Rattle.console.proofs.ShowLaws.{known, puts-1, puts-refused, puts-12, puts-shown}
 use Rattle.console.proofs.ShownLaws.{noStations, either-was, both-below, show-label-2, show-label}
@@ -45,7 +45,7 @@ found c =
     let args = start c .args in
     storedLabel (args .memory .now) (labelsAt + 16 * place (args .i) (args .t))
 
-shown : (c : tie.Else2) → showLabel (start c .args .i) (start c .args .t) (storedNetwork (start c .args .memory .now)) ≡ done (labelBytes (found c))
+shown : (c : tie.Else2) → showLabel (start c .args .i) (start c .args .t) (storedNetwork (start c .args .memory .now)) ≡ accepted (labelBytes (found c))
 shown c = show-label _ _ _ (known _ (in-range (first c))) (stations c)
 
 out-of-range-requires : tie.Need-out-of-range-requires

@@ -5,7 +5,7 @@ use mathlib.Core.Bool.{false}
 use lib.ListN.{length}
 use native.Mathlib.Omega.{arith}
 use borrow.Author.Needs.{needs}
-use Rattle.base.proofs.Flags.{was-true, was-false}
+use Rattle.base.proofs.Booleans.{was-true, was-false}
 use Rattle.layout.specs.Places.{layoutLength}
 use Rattle.console.specs.Showing.{outOfRange}
 use Rattle.console.proofs.ShowLaws.{known, tells-1, tells-refused, tells-value}

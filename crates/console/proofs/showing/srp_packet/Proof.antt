@@ -7,7 +7,8 @@ use lib.Dec.{leb}
 use native.Mathlib.Omega.{arith}
 use borrow.Author.Needs.{needs}
 use borrow.Author.Tests.{le-leb, lt-leb}
-use Rattle.base.proofs.Flags.{was-true, was-false}
+use Rattle.base.proofs.Booleans.{was-true, was-false}
+use Rattle.base.specs.Results.{accepted}
 use Rattle.codec.specs.Bytes.{byteAt}
 use Rattle.model.specs.Memory.{Packet}
 use Rattle.network.specs.View.{packetOf}
@@ -15,7 +16,6 @@ use Rattle.layout.specs.Places.{layoutLength, airAt, packetsAt}
 use Rattle.layout.specs.Stored.{storedPacket, storedNetwork}
 use Rattle.layout.specs.Written.{packetBytes}
 use Rattle.layout.proofs.EntryLaws.{packet-wide}
-use Rattle.script.specs.Script.{done}
 use Rattle.console.specs.Showing.{outOfRange, showPacket}
 use Rattle.console.proofs.ShowLaws.{known, puts-1, puts-refused, puts-12, puts-shown}
 use Rattle.console.proofs.ShownLaws.{show-packet-6, show-packet}
@@ -47,7 +47,7 @@ found c =
     let args = start c .args in
     packetOf (storedPacket (args .memory .now) (packetsAt + 28 * args .k))
 
-shown : (c : tie.Else2) → showPacket (start c .args .k) (storedNetwork (start c .args .memory .now)) ≡ done (packetBytes (found c))
+shown : (c : tie.Else2) → showPacket (start c .args .k) (storedNetwork (start c .args .memory .now)) ≡ accepted (packetBytes (found c))
 shown c = show-packet _ _ (known _ (in-range (first c))) (there c)
 
 out-of-range-requires : tie.Need-out-of-range-requires

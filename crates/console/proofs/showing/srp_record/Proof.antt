@@ -5,14 +5,14 @@ use mathlib.Core.Bool.{false}
 use lib.ListN.{length}
 use native.Mathlib.Omega.{arith}
 use borrow.Author.Needs.{needs}
-use Rattle.base.proofs.Flags.{was-true, was-false}
+use Rattle.base.proofs.Booleans.{was-true, was-false}
+use Rattle.base.specs.Results.{accepted}
 use Rattle.model.specs.Memory.{Record, place}
 use Rattle.network.specs.View.{recordOf}
 use Rattle.layout.specs.Places.{layoutLength, recordsAt}
 use Rattle.layout.specs.Stored.{storedRecord, storedNetwork}
 use Rattle.layout.specs.Written.{recordBytes}
 use Rattle.layout.proofs.EntryLaws.{record-wide}
-use Rattle.script.specs.Script.{done}
 use Rattle.console.specs.Showing.{outOfRange, showRecord}
 use Rattle.console.proofs.ShowLaws.{known, puts-1, puts-refused, puts-12, puts-shown}
 use Rattle.console.proofs.ShownLaws.{noPair, pair-below, show-record-2, show-record}
@@ -45,7 +45,7 @@ found c =
     let args = start c .args in
     recordOf (storedRecord (args .memory .now) (recordsAt + 23 * place (args .i) (args .source)))
 
-shown : (c : tie.Else2) → showRecord (start c .args .i) (start c .args .source) (storedNetwork (start c .args .memory .now)) ≡ done (recordBytes (found c))
+shown : (c : tie.Else2) → showRecord (start c .args .i) (start c .args .source) (storedNetwork (start c .args .memory .now)) ≡ accepted (recordBytes (found c))
 shown c = show-record _ _ _ (known _ (in-range (first c))) (stations c)
 
 out-of-range-requires : tie.Need-out-of-range-requires

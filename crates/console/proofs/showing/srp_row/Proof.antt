@@ -5,14 +5,14 @@ use mathlib.Core.Bool.{false}
 use lib.ListN.{length}
 use native.Mathlib.Omega.{arith}
 use borrow.Author.Needs.{needs}
-use Rattle.base.proofs.Flags.{was-true, was-false}
+use Rattle.base.proofs.Booleans.{was-true, was-false}
+use Rattle.base.specs.Results.{accepted}
 use Rattle.model.specs.Memory.{Row, place}
 use Rattle.network.specs.View.{rowOf}
 use Rattle.layout.specs.Places.{layoutLength, rowsAt}
 use Rattle.layout.specs.Stored.{storedRow, storedNetwork}
 use Rattle.layout.specs.Written.{rowBytes}
 use Rattle.layout.proofs.EntryLaws.{row-wide}
-use Rattle.script.specs.Script.{done}
 use Rattle.console.specs.Showing.{outOfRange, showRow}
 use Rattle.console.proofs.ShowLaws.{known, puts-1, puts-refused, puts-12, puts-shown}
 use Rattle.console.proofs.ShownLaws.{noStations, either-was, both-below, show-row-2, show-row}
@@ -45,7 +45,7 @@ found c =
     let args = start c .args in
     rowOf (storedRow (args .memory .now) (rowsAt + 69 * place (args .i) (args .t)))
 
-shown : (c : tie.Else2) → showRow (start c .args .i) (start c .args .t) (storedNetwork (start c .args .memory .now)) ≡ done (rowBytes (found c))
+shown : (c : tie.Else2) → showRow (start c .args .i) (start c .args .t) (storedNetwork (start c .args .memory .now)) ≡ accepted (rowBytes (found c))
 shown c = show-row _ _ _ (known _ (in-range (first c))) (stations c)
 
 out-of-range-requires : tie.Need-out-of-range-requires

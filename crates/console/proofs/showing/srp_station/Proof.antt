@@ -6,11 +6,11 @@ use mathlib.Core.List.{List}
 use lib.ListN.{length}
 use native.Mathlib.Omega.{arith}
 use borrow.Author.Needs.{needs}
-use Rattle.base.proofs.Flags.{was-true, was-false}
+use Rattle.base.proofs.Booleans.{was-true, was-false}
+use Rattle.base.specs.Results.{accepted}
 use Rattle.codec.specs.Bytes.{byteAt, numberAt}
 use Rattle.layout.specs.Places.{layoutLength, numbersAt, soughtAt, activeAt}
 use Rattle.layout.specs.Stored.{storedFlag, storedNetwork}
-use Rattle.script.specs.Script.{done}
 use Rattle.console.specs.Showing.{outOfRange, stationBytes, showStation}
 use Rattle.console.proofs.ShowLaws.{known, puts-1, puts-refused, puts-12, puts-shown}
 use Rattle.console.proofs.ShownLaws.{station-wide, noStation, station-below, show-station-2, show-station}
@@ -43,7 +43,7 @@ found c =
     let bytes = args .memory .now in
     stationBytes (numberAt 4 bytes (numbersAt + 4 * args .i)) (byteAt bytes (soughtAt + args .i)) (storedFlag bytes (activeAt + args .i))
 
-shown : (c : tie.Else2) → showStation (start c .args .i) (storedNetwork (start c .args .memory .now)) ≡ done (found c)
+shown : (c : tie.Else2) → showStation (start c .args .i) (storedNetwork (start c .args .memory .now)) ≡ accepted (found c)
 shown c = show-station _ _ (known _ (in-range (first c))) (station c)
 
 wide : (c : tie.Else2) → length (found c) ≡ 6

@@ -42,6 +42,9 @@ put-byte-requires c κs = search needs
 loop-holds : tie.Need-loop-holds Inv-loop μ-loop
 loop-holds c = (omega arith, put-none successorBytes EntryFits _ _ _)
 
+cast-loop : tie.Need-cast-loop Inv-loop μ-loop
+cast-loop c = search needs
+
 add-put-entry : tie.Need-add-put-entry Inv-loop μ-loop
 add-put-entry c = search needs
 
@@ -102,6 +105,7 @@ put-row-spec =
     μ-loop
     put-byte-requires
     loop-holds
+    cast-loop
     add-put-entry
     mul-put-entry
     add-put-entry-2

@@ -23,6 +23,9 @@ label-of-requires c κs = search needs
 loop-holds : tie.Need-loop-holds Inv-loop μ-loop
 loop-holds c = (omega arith, filled-none _ _ _ refl, filled-none _ _ _ refl)
 
+cast-loop : tie.Need-cast-loop Inv-loop μ-loop
+cast-loop c = search needs
+
 add-stations : tie.Need-add-stations Inv-loop μ-loop
 add-stations c = search needs
 
@@ -89,6 +92,7 @@ read-row-spec =
     μ-loop
     label-of-requires
     loop-holds
+    cast-loop
     add-stations
     mul-stations
     add-stations-2

@@ -1,7 +1,7 @@
 -- `meaning::has_meaning` meets its contract: each answer by its part of the definition.
 use borrow.Author.Needs.{needs}
 use borrow.Author.Tests.{le-leb, lt-leb}
-use Rattle.base.proofs.Flags.{not-was-true, not-was-false}
+use Rattle.base.proofs.Booleans.{not-was-true, not-was-false}
 use Rattle.layout.specs.Meaning.{hasMeaning}
 use Rattle.layout.proofs.meaning.has_meaning.Statement.{statement}
 use Rattle.layout.proofs.meaning.has_meaning.Tie as tie

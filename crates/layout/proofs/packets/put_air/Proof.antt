@@ -46,6 +46,9 @@ cast-limit c = search needs
 loop-holds : tie.Need-loop-holds Inv-loop μ-loop
 loop-holds c = (omega arith, put-none packetBytes PacketFits _ _ _)
 
+cast-loop : tie.Need-cast-loop Inv-loop μ-loop
+cast-loop c = search needs
+
 mul-p : tie.Need-mul-p Inv-loop μ-loop
 mul-p c = search needs
 
@@ -116,6 +119,7 @@ put-air-spec =
     put-byte-requires
     cast-limit
     loop-holds
+    cast-loop
     mul-p
     element-copy-out-p
     add-put-packet

@@ -21,6 +21,9 @@ bare-requires c κs = search needs
 loop-holds : tie.Need-loop-holds Inv-loop μ-loop
 loop-holds c = (omega arith, filled-none _ _ _ refl)
 
+cast-loop : tie.Need-cast-loop Inv-loop μ-loop
+cast-loop c = search needs
+
 add-read-packet : tie.Need-add-read-packet Inv-loop μ-loop
 add-read-packet c = search needs
 
@@ -68,6 +71,7 @@ read-air-spec =
     μ-loop
     bare-requires
     loop-holds
+    cast-loop
     add-read-packet
     mul-read-packet
     add-read-packet-2

@@ -6,7 +6,7 @@ use lib.ListN.{length, length-append}
 use native.Mathlib.Omega.{arith}
 use borrow.Author.Needs.{needs}
 use Rattle.base.specs.Lists.{below}
-use Rattle.base.proofs.Flags.{cases}
+use Rattle.base.proofs.Booleans.{cases}
 use Rattle.base.proofs.Loops.{below-yes, below-no, below-length}
 use Rattle.model.specs.Memory.{linkIn}
 use Rattle.model.proofs.Links.{link-at}

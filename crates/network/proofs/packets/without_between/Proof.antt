@@ -5,7 +5,7 @@ use mathlib.Core.Bool.{true, false, not}
 use native.Mathlib.Omega.{arith}
 use borrow.Author.Needs.{needs}
 use Rattle.base.specs.Lists.{keep, tabulate}
-use Rattle.base.proofs.Flags.{cases, not-was-true, not-was-false}
+use Rattle.base.proofs.Booleans.{cases, not-was-true, not-was-false}
 use Rattle.base.proofs.Loops.{keep-yes, keep-no}
 use Rattle.base.proofs.Lists.{unmapped}
 use Rattle.network.specs.declared.Air.{Air}

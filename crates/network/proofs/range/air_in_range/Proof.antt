@@ -7,7 +7,7 @@ use native.Mathlib.Omega.{arith}
 use borrow.Author.Tests.{le-leb, lt-leb}
 use borrow.Author.Needs.{needs}
 use Rattle.base.specs.Lists.{allBelow}
-use Rattle.base.proofs.Flags.{not-was-true, not-was-false}
+use Rattle.base.proofs.Booleans.{not-was-true, not-was-false}
 use Rattle.base.proofs.Loops.{tabulate-length, all-none, all-more, all-ends, all-broken, all-tabulate}
 use Rattle.model.specs.Memory.{packetInRange, airInRange}
 use Rattle.network.specs.View.{zeroPacket, packetOf, airOf}

@@ -2,7 +2,7 @@
 use mathlib.Core.Path.{_≡_}
 use mathlib.Core.Bool.{true}
 use borrow.Author.Needs.{needs}
-use Rattle.base.proofs.Flags.{not-was-true, not-was-false}
+use Rattle.base.proofs.Booleans.{not-was-true, not-was-false}
 use Rattle.model.specs.Memory.{sizeInRange}
 use Rattle.network.proofs.RangeLaws.{size-at-most}
 use Rattle.network.proofs.range.frame_in_range.Statement.{statement}

@@ -1,7 +1,7 @@
 -- `range::row_in_range` meets its contract: each answer by its part of the definition.
 use borrow.Author.Tests.{le-leb, lt-leb}
 use borrow.Author.Needs.{needs}
-use Rattle.base.proofs.Flags.{not-was-true, not-was-false}
+use Rattle.base.proofs.Booleans.{not-was-true, not-was-false}
 use Rattle.base.proofs.Loops.{tabulate-length}
 use Rattle.model.specs.Memory.{rowInRange}
 use Rattle.network.specs.View.{rowOf}

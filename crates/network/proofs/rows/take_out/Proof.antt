@@ -5,7 +5,7 @@ use mathlib.Core.Bool.{_||_}
 use native.Mathlib.Omega.{arith}
 use borrow.Author.Needs.{needs}
 use Rattle.base.specs.Choice.{if_then_else_}
-use Rattle.base.proofs.Flags.{cases}
+use Rattle.base.proofs.Booleans.{cases}
 use Rattle.model.specs.Memory.{place}
 use Rattle.network.proofs.CutLaws.{Taking, taking-none, taking-below, taking-not, taking-more}
 use Rattle.network.proofs.rows.take_out.Statement.{statement}
@@ -32,8 +32,8 @@ mul-row c = search needs
 array-copy-out-row : tie.Need-array-copy-out-row Inv-loop μ-loop
 array-copy-out-row c = search needs
 
-lose-requires : tie.Need-lose-requires Inv-loop μ-loop
-lose-requires c κs =
+without-station-requires : tie.Need-without-station-requires Inv-loop μ-loop
+without-station-requires c κs =
     let loop = c .before .before .before .before .before in
     rw (c .before .place .ensures, loop .loop .inv .1 .rest (place (loop .before .args .i) (loop .loop .t)) (omega arith)) (loop .before .pre .1 (loop .loop .t) (omega arith))
 
@@ -87,7 +87,7 @@ take-out-spec =
     place-requires
     mul-row
     array-copy-out-row
-    lose-requires
+    without-station-requires
     mul-rows
     array-set-from-rows
     marked-requires

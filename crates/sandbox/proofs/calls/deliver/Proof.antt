@@ -3,7 +3,7 @@ use Prim.Native.Nat.{_<_}
 use mathlib.Core.Path.{_≡_, _∙_}
 use mathlib.Core.Bool.{true}
 use borrow.Author.Needs.{needs}
-use Rattle.base.proofs.Flags.{not-was-true, not-was-false}
+use Rattle.base.proofs.Booleans.{not-was-true, not-was-false}
 use Rattle.model.specs.Memory.{memoryInRange}
 use Rattle.model.specs.Calls.{Deliver}
 use Rattle.model.proofs.Refusals.{deliver-6}

@@ -1,7 +1,7 @@
 -- `calls::trace` meets its contract: refused with 1, or the trace on memory in range; and the claim of demand 3.
 use mathlib.Core.Path.{_≡_, sym}
 use borrow.Author.Needs.{needs}
-use Rattle.base.proofs.Flags.{not-was-true, not-was-false}
+use Rattle.base.proofs.Booleans.{not-was-true, not-was-false}
 use Rattle.model.specs.Calls.{traced, trace}
 use Rattle.model.proofs.Tracing.{trace-out-of-range}
 use Rattle.network.specs.View.{view}

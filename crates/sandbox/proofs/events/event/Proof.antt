@@ -1,6 +1,6 @@
 -- `events::event` meets its contract: refused with 1, or the event on memory in range.
 use borrow.Author.Needs.{needs}
-use Rattle.base.proofs.Flags.{not-was-true, not-was-false}
+use Rattle.base.proofs.Booleans.{not-was-true, not-was-false}
 use Rattle.steps.proofs.HappenLaws.{happens-out-of-range}
 use Rattle.sandbox.proofs.events.event.Statement.{statement}
 use Rattle.sandbox.proofs.events.event.Tie as tie

@@ -1,7 +1,7 @@
 -- `requests::at_destination` meets its contract: each answer by its case of the definition.
 use mathlib.Core.Path.{_∙_}
 use borrow.Author.Needs.{needs}
-use Rattle.base.proofs.Flags.{not-was-true, not-was-false}
+use Rattle.base.proofs.Booleans.{not-was-true, not-was-false}
 use Rattle.model.specs.Calls.{withNumber}
 use Rattle.station.proofs.Laws.{holds-holding, reacts-twice}
 use Rattle.station.proofs.RequestLaws.{destination-stays, destination-overflows, destination-rises}

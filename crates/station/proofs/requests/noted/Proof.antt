@@ -6,7 +6,7 @@ use Rattle.station.proofs.requests.noted.Statement.{statement}
 use Rattle.station.proofs.requests.noted.Tie as tie
 
 returns : tie.Need-returns
-unfolding recordOf requestOf calls.recordOf
+unfolding recordOf requestOf calls.recorded
 returns c = refl
 
 pub noted-spec : {M : Type 1} → statement M

@@ -13,17 +13,17 @@ returns : tie.Need-returns
 unfolding onwardReset requestOf
 returns c = rw (sym (c .before .clears .ensures) ∙ c .if1 .taken)
 
-crowded-requires : tie.Need-crowded-requires
-crowded-requires c κs = search needs
+denominators-overflow-requires : tie.Need-denominators-overflow-requires
+denominators-overflow-requires c κs = search needs
 
 returns-2 : tie.Need-returns-2
 unfolding onwardReset requestOf
-returns-2 c = rw (sym (c .before .before .before .clears .ensures) ∙ c .before .before .if1 .left, sym (c .before .crowded .ensures) ∙ c .if2 .taken)
+returns-2 c = rw (sym (c .before .before .before .clears .ensures) ∙ c .before .before .if1 .left, sym (c .before .denominators-overflow .ensures) ∙ c .if2 .taken)
 
 returns-3 : tie.Need-returns-3
 unfolding onwardReset requestOf
-returns-3 c = rw (sym (c .before .before .before .clears .ensures) ∙ c .before .before .if1 .left, sym (c .before .crowded .ensures) ∙ c .if2 .left)
+returns-3 c = rw (sym (c .before .before .before .clears .ensures) ∙ c .before .before .if1 .left, sym (c .before .denominators-overflow .ensures) ∙ c .if2 .left)
 
 pub onward-reset-spec : {M : Type 1} → statement M
 onward-reset-spec =
-    tie.close (tie.spec clears-requires returns crowded-requires returns-2 returns-3)
+    tie.close (tie.spec clears-requires returns denominators-overflow-requires returns-2 returns-3)

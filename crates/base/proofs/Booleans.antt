@@ -21,7 +21,7 @@ not-was-true t u e h = sym e ∙ not-false t h
 pub not-was-false : (t u : Bool) → t ≡ u → not t ≡ true → u ≡ false
 not-was-false t u e h = sym e ∙ not-true t h
 
-pub ruleset flags = (was-true, was-false, not-was-true, not-was-false)
+pub ruleset booleans = (was-true, was-false, not-was-true, not-was-false)
 
 -- No test is both.
 pub clash : {A : Type 0} {t : Bool} → t ≡ true → t ≡ false → A
@@ -59,16 +59,16 @@ pub cases : {A B C : Type 0} → A ⊎ B → (A → C) → (B → C) → C
 cases (inl a) f g = f a
 cases (inr b) f g = g b
 
--- Two numbers, one against the other.
-pub data Against (a b : ℕ) : Type 0 where
-  less : a < b → Against a b
-  equal : a ≡ b → Against a b
-  more : b < a → Against a b
+-- Two numbers: the first is less, equal or more.
+pub data Trichotomy (a b : ℕ) : Type 0 where
+  less : a < b → Trichotomy a b
+  equal : a ≡ b → Trichotomy a b
+  more : b < a → Trichotomy a b
 
-pub against : (a b : ℕ) → Against a b
-against a b = go (ltb a b) refl (ltb b a) refl
+pub trichotomy : (a b : ℕ) → Trichotomy a b
+trichotomy a b = go (ltb a b) refl (ltb b a) refl
   where
-    go : (t : Bool) → ltb a b ≡ t → (u : Bool) → ltb b a ≡ u → Against a b
+    go : (t : Bool) → ltb a b ≡ t → (u : Bool) → ltb b a ≡ u → Trichotomy a b
     go true e u k = less (ltb-true a b e)
     go false e true k = more (ltb-true b a k)
     go false e false k = equal (omega (arith, ltb-false))

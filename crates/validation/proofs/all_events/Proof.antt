@@ -1,4 +1,4 @@
--- `all_events` meets its contract: the events before place i pass.
+-- `validation::all_events` meets its contract: the events before place i pass.
 use Prim.Native.Nat.{_+_, _-_, _*_, _≤_}
 use mathlib.Core.Path.{_≡_, sym}
 use mathlib.Core.Bool.{true, not}
@@ -6,12 +6,11 @@ use lib.ListN.{length, getD}
 use native.Mathlib.Omega.{arith}
 use borrow.Author.Needs.{needs}
 use Rattle.base.specs.Lists.{allBelow}
-use Rattle.base.proofs.Flags.{was-true, was-false}
+use Rattle.base.proofs.Booleans.{was-true, was-false}
 use Rattle.base.proofs.Loops.{all-none, all-more, all-ends, all-broken}
-use Rattle.model.specs.Events.{notEvent}
-use Rattle.script.specs.Script.{allEvents}
-use Rattle.script.proofs.all_events.Statement.{statement}
-use Rattle.script.proofs.all_events.Tie as tie
+use Rattle.model.specs.Events.{notEvent, allEvents}
+use Rattle.validation.proofs.all_events.Statement.{statement}
+use Rattle.validation.proofs.all_events.Tie as tie
 
 abbrev Inv-loop : tie.InvT-loop
 Inv-loop kinds operands i₀ i =

@@ -1,9 +1,9 @@
--- `events::not_events` meets its contract: the two tests.
+-- `validation::not_events` meets its contract: the two tests.
 use native.Mathlib.Omega.{arith}
 use borrow.Author.Tests.{lt-ltb, le-ltb}
 use Rattle.model.specs.Events.{notEvents}
-use Rattle.sandbox.proofs.events.not_events.Statement.{statement}
-use Rattle.sandbox.proofs.events.not_events.Tie as tie
+use Rattle.validation.proofs.not_events.Statement.{statement}
+use Rattle.validation.proofs.not_events.Tie as tie
 
 returns : tie.Need-returns
 unfolding notEvents

@@ -1,8 +1,8 @@
--- `calls::open_refused` meets its contract: the two tests.
+-- `validation::open_refused` meets its contract: the two tests.
 use borrow.Author.Needs.{needs}
 use Rattle.model.specs.Calls.{notOpening}
-use Rattle.sandbox.proofs.calls.open_refused.Statement.{statement}
-use Rattle.sandbox.proofs.calls.open_refused.Tie as tie
+use Rattle.validation.proofs.open_refused.Statement.{statement}
+use Rattle.validation.proofs.open_refused.Tie as tie
 
 size-in-range-requires : tie.Need-size-in-range-requires
 size-in-range-requires c κs = search needs

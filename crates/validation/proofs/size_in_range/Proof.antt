@@ -1,8 +1,8 @@
--- `range::size_in_range` meets its contract: each answer by its part of the definition.
+-- `validation::size_in_range` meets its contract: each answer by its part of the definition.
 use borrow.Author.Tests.{le-leb, lt-leb}
 use Rattle.model.specs.Memory.{sizeInRange}
-use Rattle.network.proofs.range.size_in_range.Statement.{statement}
-use Rattle.network.proofs.range.size_in_range.Tie as tie
+use Rattle.validation.proofs.size_in_range.Statement.{statement}
+use Rattle.validation.proofs.size_in_range.Tie as tie
 
 returns : tie.Need-returns
 unfolding sizeInRange

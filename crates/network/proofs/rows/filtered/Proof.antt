@@ -1,17 +1,17 @@
--- `rows::kept` meets its contract: after k turns the new row has those of the first k entries that stay.
+-- `rows::filtered` meets its contract: after k turns the new row has those of the first k entries that stay.
 use Prim.Native.Nat.{_-_, _≤_}
 use mathlib.Core.Path.{_≡_, refl, sym, ap, _∙_}
 use mathlib.Core.List.{_++_, _∷_, []}
 use native.Mathlib.Omega.{arith}
 use borrow.Author.Needs.{needs}
 use Rattle.base.specs.Lists.{keep, tabulate}
-use Rattle.base.proofs.Flags.{cases}
+use Rattle.base.proofs.Booleans.{cases}
 use Rattle.base.proofs.Loops.{keep-yes, keep-no}
 use Rattle.model.specs.Memory as model
 use Rattle.network.specs.View.{entryOf, rowOf, keeps}
-use Rattle.network.proofs.RowLaws.{kept-short}
-use Rattle.network.proofs.rows.kept.Statement.{statement}
-use Rattle.network.proofs.rows.kept.Tie as tie
+use Rattle.network.proofs.RowLaws.{filtered-short}
+use Rattle.network.proofs.rows.filtered.Statement.{statement}
+use Rattle.network.proofs.rows.filtered.Tie as tie
 
 abbrev Inv-loop : tie.InvT-loop
 Inv-loop test row count next₀ k₀ next k = (k ≤ count) × (rowOf next ≡ keep (keeps test) (tabulate k (entryOf row)))
@@ -40,7 +40,7 @@ keeps-requires c κs = search needs
 
 push-requires : tie.Need-push-requires Inv-loop μ-loop
 push-requires c κs =
-    omega (arith, kept-short _ _ _ _ (c .before .before .before .before .before .loop .inv .1))
+    omega (arith, filtered-short _ _ _ _ (c .before .before .before .before .before .loop .inv .1))
 
 add-k : tie.Need-add-k Inv-loop μ-loop
 add-k c = search needs
@@ -71,8 +71,8 @@ returns : tie.Need-returns Inv-loop μ-loop
 unfolding rowOf
 returns c = let e : c .before .loop .k ≡ c .before .before .args .t1 .count = omega arith in rw e at (c .before .loop .inv .1)
 
-pub kept-spec : {M : Type 1} → statement M
-kept-spec =
+pub filtered-spec : {M : Type 1} → statement M
+filtered-spec =
     tie.close
     (tie.spec
     Inv-loop

@@ -1,0 +1,6 @@
+-- Numbers that several definitions name.
+use Prim.Native.Nat.{ℕ}
+
+-- The largest number of 32 bits: a denominator and a request's number are at most this.
+abbrev pub maxU32 : ℕ
+maxU32 = 4_294_967_295

@@ -1,0 +1,61 @@
+// Tests of what a caller hands in that need no memory: n and start, the number of events, and what is an event.
+ghost use mathlib.Core.Path.{_≡_};
+ghost use Prim.Native.Nat.{_*_, _≤_};
+ghost use lib.ListN.{length};
+ghost use Rattle.model.specs.Memory.{sizeInRange};
+ghost use Rattle.model.specs.Calls.{notOpening};
+ghost use Rattle.model.specs.Events.{notEvent, notEvents, allEvents};
+
+// The most events of a script or a run.
+pub const EVENT_LIMIT: usize = 4096;
+
+// Whether n is 2 to 16.
+pub fn size_in_range(n: usize) -> bool
+    ensures { λ r. ⌜ r ≡ sizeInRange n ⌝ }
+{
+    if n < 2 {
+        return false;
+    }
+    n <= 16
+}
+
+// 1: whether n is not 2 to 16, or start is 0.
+pub fn open_refused(n: usize, start: u64) -> bool
+    ensures { λ r. ⌜ r ≡ notOpening n start ⌝ }
+{
+    !size_in_range(n) | (start == 0)
+}
+
+// 10: whether there are too many kinds, or the operands are not two for each.
+pub fn not_events(kinds: usize, operands: usize) -> bool
+    ensures { λ r. ⌜ r ≡ notEvents kinds operands ⌝ }
+{
+    if EVENT_LIMIT < kinds {
+        return true;
+    }
+    operands != 2 * kinds
+}
+
+// 11: whether the kind is not 1 to 9, or the operand b is not used and not 0.
+pub fn not_event(kind: u8, b: u8) -> bool
+    ensures { λ r. ⌜ r ≡ notEvent kind b ⌝ }
+{
+    (kind == 0) | (9 < kind) | ((kind == 4) | (5 < kind) & (kind < 9)) & (b != 0)
+}
+
+// 11, of any of them: whether every one is an event.
+pub fn all_events(kinds: &[u8], operands: &[u8]) -> bool
+    requires { ⌜ 2 * length (now kinds) ≤ length (now operands) ⌝ }
+    ensures { λ r. ⌜ r ≡ allEvents (now (kinds .entry)) (now (operands .entry)) ⌝ }
+{
+    let mut i = 0;
+    while i < kinds.len() {
+        let kind = kinds[i];
+        let b = operands[2 * i + 1];
+        if not_event(kind, b) {
+            return false;
+        }
+        i += 1;
+    }
+    true
+}
