@@ -42,7 +42,6 @@ use denote.Struct.Steps.{spelt}
 use denote.Struct.Laws.{vals, tells, makes, lawful, owes, owed}
 use borrow.Struct.Items.{array-same}
 use borrow.Struct.Lend.{kept-field, record-apart-as, record-fill-as}
-use Rattle.base.proofs.Lists.{unmapped}
 use Rattle.network.specs.View.{zeroPacket}
 use Rattle.network.specs.declared.Packet.{Packet}
 use Rattle.network.specs.declared.Air.{Air}
@@ -50,6 +49,7 @@ use Rattle.network.proofs.Packet as packet
 use Rattle.network.proofs.Packet.Laws as packet′
 use Rattle.network.proofs.Air as air
 use Rattle.network.proofs.Air.Laws as air′
+use Rattle.network.proofs.Lengths.{ValidAir}
 
 -- A packet's machine values, that they stand for it, and its bytes in memory.
 abbrev pub packet-vals : Packet → List Val
@@ -68,18 +68,12 @@ packets-at b o l = row packet.the-row fullShare l b o
 abbrev pub packet-at : List Packet → ℕ → Packet
 packet-at l i = getD l i zeroPacket
 
--- An air, its machine values, and that they stand for it.
+-- An air, and its machine values.
 abbrev pub air-of : List Packet → ℕ → Air
 air-of l count = record { packets = l; count = count }
 
 abbrev pub air-vals : Air → List Val
 air-vals = vals air.the-type air′.the-laws
-
-abbrev pub ValidAir : Air → Type 0
-ValidAir a = Is air.the-row a (air-vals a)
-
-pub air-long : (a : Air) → ValidAir a → length (a .packets) ≡ 128
-air-long a valid = unmapped _ (a .packets) 128 (valid .1 .1 .0 .1 .0 .1)
 
 pub air-counts : (l : List Packet) (c count : ℕ) → count < 2 ^ 8 → ValidAir (air-of l c) → ValidAir (air-of l count)
 air-counts l c count fits valid =

@@ -1,5 +1,6 @@
 pub mod Bits
 pub mod ViewLaws
+pub mod Lengths
 pub mod RowLaws
 pub mod CutLaws
 pub mod PacketLaws

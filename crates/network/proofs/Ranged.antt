@@ -24,17 +24,6 @@ use Rattle.network.proofs.ViewLaws.{row-at, record-at, label-at, body-r
 use Rattle.network.proofs.RowLaws.{row-length}
 use Rattle.network.proofs.PacketLaws.{air-length, air-at}
 
--- The tables have their sizes. What is known of an array of structs is the length of its image.
-pub sized : (memory : Memory) {A B : Type 0} (f : Row → A) (g : Record → B) → length (map f (memory .rows)) ≡ 256
-    → length (map g (memory .records)) ≡ 256 → length (memory .sought) ≡ 16 → Sized (view memory)
-unfolding view
-sized memory f g rows records sought = record {
-  labels-length = tabulate-length 256 (labelOf (memory .s) (memory .m) (memory .d));
-  rows-length = length-map (memory .rows) rowOf ∙ unmapped f (memory .rows) 256 rows;
-  records-length = length-map (memory .records) recordOf ∙ unmapped g (memory .records) 256 records;
-  sought-length = sought;
-}
-
 -- A packet, by its kind.
 pub record Carried (n : ℕ) (p : Packet) : Type 0 where
   pub sender-below : p .sender < n

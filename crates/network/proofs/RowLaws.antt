@@ -15,11 +15,12 @@ use Rattle.base.proofs.Loops.{tabulate-length, tabulate-more, tabulate-same, ta
 use Rattle.label.specs.declared.Label.{Label}
 use Rattle.label.specs.Label.{label}
 use Rattle.model.specs.Memory as model
-use Rattle.model.specs.Memory.{names, without}
+use Rattle.model.specs.Memory.{names, without, rowLimit}
 use Rattle.model.specs.Calls.{empties}
 use Rattle.network.specs.declared.Row.{Row}
 use Rattle.network.specs.declared.rows.Keep.the-variants.{Without}
 use Rattle.network.specs.View.{successor, entryOf, rowOf, keeps}
+use Rattle.network.proofs.Lengths.{RowLengths}
 
 -- Whether entry k names j.
 module _ (row : Row) (k j : ℕ) where
@@ -35,18 +36,13 @@ module _ (row : Row) (k j : ℕ) where
 abbrev pub written : Row → ℕ → ℕ → Label → ℕ → Row
 written row at station label count = record { labels = set (row .labels) at label; stations = set (row .stations) at station; count = count }
 
--- Room for four entries, as the arrays have.
-pub record Four (row : Row) : Type 0 where
-  pub stations-length : length (row .stations) ≡ 4
-  pub labels-length : length (row .labels) ≡ 4
-
-module _ (row : Row) (four : Four row) (at station : ℕ) (label : Label) (count : ℕ) where
-  written-here : at < 4 → entryOf (written row at station label count) at ≡ successor station label
+module _ (row : Row) (long : RowLengths row) (at station : ℕ) (label : Label) (count : ℕ) where
+  written-here : at < rowLimit → entryOf (written row at station label count) at ≡ successor station label
   unfolding entryOf
   written-here h =
       ap₂ (λ (s : ℕ) (l : Label). successor s l)
-      (getD-set-same (row .stations) at station 0 (omega (arith, four .stations-length)))
-      (getD-set-same (row .labels) at label _ (omega (arith, four .labels-length)))
+      (getD-set-same (row .stations) at station 0 (omega (arith, long .stations-length)))
+      (getD-set-same (row .labels) at label _ (omega (arith, long .labels-length)))
 
   written-elsewhere : (k : ℕ) → k ≢ at → entryOf (written row at station label count) k ≡ entryOf row k
   unfolding entryOf
@@ -55,25 +51,25 @@ module _ (row : Row) (four : Four row) (at station : ℕ) (label : Label) (count
       (getD-set-other (row .stations) at k station 0 h) (getD-set-other (row .labels) at k label _ h)
 
 -- An entry written at the count is one more.
-pub row-push : (row : Row) → Four row → (station : ℕ) (label : Label) → row .count < 4
+pub row-push : (row : Row) → RowLengths row → (station : ℕ) (label : Label) → row .count < rowLimit
     → rowOf (written row (row .count) station label (row .count + 1)) ≡ rowOf row ++ (successor station label ∷ [])
 unfolding rowOf
-row-push row four station label h =
+row-push row long station label h =
     let c = row .count in
     let next = written row c station label (c + 1) in
     tabulate-more c (entryOf next)
     ∙ ap₂ (λ (l : model.Row) (e : model.Successor). l ++ (e ∷ []))
-    (tabulate-same c (entryOf next) (entryOf row) (λ k l. written-elsewhere row four c station label (c + 1) k (λ e. omega arith)))
-    (written-here row four c station label (c + 1) h)
+    (tabulate-same c (entryOf next) (entryOf row) (λ k l. written-elsewhere row long c station label (c + 1) k (λ e. omega arith)))
+    (written-here row long c station label (c + 1) h)
 
 -- An entry written below the count takes that place.
-pub row-set : (row : Row) → Four row → (at station : ℕ) (label : Label) → at < 4
+pub row-set : (row : Row) → RowLengths row → (at station : ℕ) (label : Label) → at < rowLimit
     → rowOf (written row at station label (row .count)) ≡ set (rowOf row) at (successor station label)
 unfolding rowOf
-row-set row four at station label h =
+row-set row long at station label h =
     let next = written row at station label (row .count) in
-    tabulate-set (row .count) (entryOf row) (entryOf next) at (λ k l q. written-elsewhere row four at station label (row .count) k q)
-    ∙ ap (λ e. set (tabulate (row .count) (entryOf row)) at e) (written-here row four at station label (row .count) h)
+    tabulate-set (row .count) (entryOf row) (entryOf next) at (λ k l q. written-elsewhere row long at station label (row .count) k q)
+    ∙ ap (λ e. set (tabulate (row .count) (entryOf row)) at e) (written-here row long at station label (row .count) h)
 
 pub row-length : (row : Row) → length (rowOf row) ≡ row .count
 unfolding rowOf

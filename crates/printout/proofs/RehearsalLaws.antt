@@ -49,7 +49,7 @@ module _ (n start : ℕ) (kinds operands : List ℕ) where
         let a = getD operands (2 * i) 0 in
         let b = getD operands (2 * i + 1) 0 in
         ap (λ (net : Network). lineOf i kind a b net (eventAt kinds operands i)) (sym (ran .left))
-        ∙ happens-line memory i kind a b (eventAt kinds operands i) r h (ran .ranged)
+        ∙ happens-line memory i kind a b (eventAt kinds operands i) r h
 
     pub text-more : textFirst (i + 1) ≡ textFirst i ++ eventText next
     unfolding textFirst

@@ -1,2 +1,2 @@
-pub mod HistoryLaws
+pub mod MadeLaws
 pub mod RunLaws

@@ -1,19 +1,20 @@
 -- A run of events, as the code makes it.
 use Prim.Native.Nat.{ℕ, _+_}
-use mathlib.Core.Path.{_≡_, refl, sym, ap, subst, _∙_}
-use mathlib.Core.Bool.{true, false}
+use mathlib.Core.Path.{_≡_, sym, ap, subst, _∙_}
+use mathlib.Core.Bool.{true, false, not}
 use mathlib.Core.List.{List, _∷_, []}
 use lib.ListN.{length}
 use Rattle.base.specs.Lists.{tabulate}
+use Rattle.base.proofs.Results.{refuse-passes}
 use Rattle.model.specs.Memory.{Network, memoryInRange}
 use Rattle.model.specs.Memory as model
 use Rattle.model.specs.Calls.{effect, notOpening, run}
 use Rattle.model.specs.Walks.{Reached}
-use Rattle.model.specs.Events.{eventAt, callsIn, notEvents, afterFirst, running}
+use Rattle.model.specs.Events.{eventAt, callsIn, notEvents, allEvents, afterFirst, running}
 use Rattle.model.proofs.Range.{Invariant, invariant-in-range}
 use Rattle.model.proofs.Refusals.{opening-accepted, fresh-reached}
 use Rattle.model.proofs.Steps.{opened-invariant}
-use Rattle.model.proofs.EventLaws.{after-more, running-10, running-1, running-accepted}
+use Rattle.model.proofs.EventLaws.{after-more}
 use Rattle.network.specs.declared.Memory.{Memory}
 use Rattle.network.specs.View.{view}
 use Rattle.steps.specs.declared.events.Happened.{Happened}
@@ -42,23 +43,13 @@ module _ (n start : ℕ) (kinds operands : List ℕ) where
         ∙ sym (after-more n start kinds operands i);
   }
 
-  -- The whole run, by its tests.
-  module _ (memory : Memory) where
-    pub run-10 : notEvents (length kinds) (length operands) ≡ true → Called memory (running n start kinds operands) (done memory 10 0)
-    unfolding Called
-    run-10 h = subst (λ z. Called memory z (done memory 10 0)) (sym (running-10 n start kinds operands h)) refl
-
-    pub run-1 : notEvents (length kinds) (length operands) ≡ false → notOpening n start ≡ true
-        → Called memory (running n start kinds operands) (done memory 1 0)
-    unfolding Called
-    run-1 h k = subst (λ z. Called memory z (done memory 1 0)) (sym (running-1 n start kinds operands h k)) refl
-
-    pub run-accepted : (next : Memory) → notEvents (length kinds) (length operands) ≡ false → notOpening n start ≡ false
-        → Ran n start kinds operands (length kinds) next → Called memory (running n start kinds operands) (done next 0 0)
-    unfolding Called
-    run-accepted next h k r =
-        subst (λ z. Called memory z (done next 0 0)) (sym (running-accepted n start kinds operands h k))
-        (ap (λ (net : Network). effect 0 0 net) (r .left), r .ranged)
+  -- The whole run, past its tests.
+  pub run-accepted : (memory next : Memory) → notEvents (length kinds) (length operands) ≡ false → notOpening n start ≡ false → allEvents kinds operands ≡ true
+      → Ran n start kinds operands (length kinds) next → Called memory (running n start kinds operands) (done next 0 0)
+  unfolding Called running
+  run-accepted memory next h k l r =
+      subst (λ z. Called memory z (done next 0 0)) (sym (refuse-passes 10 _ _ h ∙ refuse-passes 1 _ _ k ∙ refuse-passes 11 _ _ (ap not l)))
+      (ap (λ (net : Network). effect 0 0 net) (r .left), r .ranged)
 
   -- It is memory that a list of calls reaches.
   pub run-reached : (next : Memory) → notOpening n start ≡ false → Ran n start kinds operands (length kinds) next → Reached (view next)

@@ -1,11 +1,10 @@
 // The public calls. Each takes any memory and any numbers, tests 1 and then the rest, and gives the memory after it.
 ghost use mathlib.Core.Path.{_≡_};
-ghost use mathlib.Core.Logic.{_≢_};
-ghost use Prim.Native.Nat.{_<_};
 ghost use Rattle.model.specs.Calls.{Open, Up, Down, Solicit, GiveUp, Expire, Deliver, Lose, Duplicate, step, traced, trace};
-ghost use Rattle.model.specs.Walks.{WalksEnd, Reached};
+ghost use Rattle.model.specs.Walks.{Reached};
 ghost use Rattle.network.specs.View.{view};
 ghost use Rattle.steps.specs.Called.{Called};
+ghost use Rattle.sandbox.specs.Made.{MadeByCalls, WalksEndIn};
 use network::Memory;
 use network::opening::fresh;
 use network::range::in_range;
@@ -160,10 +159,11 @@ pub fn duplicate(memory: Memory, k: usize) -> Done
     delivery::duplicate(memory, k)
 }
 
-// Trace: the walk from a for t. It changes nothing.
+// Trace: the walk from a for t. It changes nothing. No walk goes in a circle in memory that the calls above made.
 pub fn trace(memory: Memory, a: usize, t: usize) -> Traced
     ensures traced { λ r. ⌜ traced (r .answer) (r .hops) ≡ trace (view memory) a t ⌝ }
-    ensures loop_free { λ r. ⌜ (Reached (view memory) → a < memory .n → t < memory .n → a ≢ t → WalksEnd (view memory) a t (traced (r .answer) (r .hops))) ⌝ }
+    ensures loop_free { λ r. ⌜ (MadeByCalls memory → WalksEndIn memory a t (traced (r .answer) (r .hops))) ⌝ }
+    ensures reached { λ r. ⌜ (Reached (view memory) → WalksEndIn memory a t (traced (r .answer) (r .hops))) ⌝ }
 {
     if !in_range(memory) {
         return Traced { answer: 1, hops: 0 };

@@ -1,13 +1,12 @@
 // Events (01, "Scripts and the printout") on any memory, and runs of events.
 ghost use mathlib.Core.Path.{_≡_};
-ghost use mathlib.Core.Logic.{_≢_};
-ghost use Prim.Native.Nat.{ℕ, _<_};
+ghost use Prim.Native.Nat.{ℕ};
 ghost use Rattle.model.specs.Calls.{trace};
-ghost use Rattle.model.specs.Walks.{WalksEnd};
 ghost use Rattle.model.specs.Events.{eventOf, running};
 ghost use Rattle.network.specs.View.{view};
 ghost use Rattle.steps.specs.Called.{Called};
 ghost use Rattle.steps.specs.Happens.{Happens};
+ghost use Rattle.sandbox.specs.Made.{WalksEndIn};
 use network::Memory;
 use network::opening::fresh;
 use network::range::in_range;
@@ -37,8 +36,7 @@ pub fn event(memory: Memory, kind: u8, a: u8, b: u8) -> Happened
 // turned down. The range is tested for no event: every event keeps it.
 pub fn run(memory: Memory, n: usize, start: u64, kinds: &[u8], operands: &[u8]) -> Done
     ensures run { λ r. ⌜ Called memory (running n start (now (kinds .entry)) (now (operands .entry))) r ⌝ }
-    ensures loop_free { λ r. ⌜ (r .answer ≡ 0 → (a t : ℕ) → a < r .memory .n → t < r .memory .n → a ≢ t
-        → WalksEnd (view (r .memory)) a t (trace (view (r .memory)) a t)) ⌝ }
+    ensures loop_free { λ r. ⌜ (r .answer ≡ 0 → (a t : ℕ) → WalksEndIn (r .memory) a t (trace (view (r .memory)) a t)) ⌝ }
 {
     if not_events(kinds.len(), operands.len()) {
         return Done {

@@ -35,12 +35,12 @@ changed memory rows air links = record {
   n = memory .n;
 }
 
-module _ (memory : Memory) (c : Call) where
-  -- A call turned down gives the same memory.
-  pub called-refused : (number : ℕ) → step c (view memory) ≡ refused number → Called memory (step c (view memory)) (done memory number 0)
-  unfolding Called
-  called-refused number e = subst (λ z. Called memory z (done memory number 0)) (sym e) refl
+-- What is turned down gives the same memory.
+pub called-refused : (memory : Memory) (z : Result Effect) (number : ℕ) → z ≡ refused number → Called memory z (done memory number 0)
+unfolding Called
+called-refused memory z number e = subst (λ y. Called memory y (done memory number 0)) (sym e) refl
 
+module _ (memory : Memory) (c : Call) where
   -- An accepted call leaves memory in range.
   pub called-accepted : (r : Done) (e : Effect) → Sized (view memory) → step c (view memory) ≡ accepted e → effectOf r ≡ e
       → Called memory (step c (view memory)) r
@@ -56,7 +56,7 @@ pair-below memory r a b e = let w = pair-tells (view memory) a b e in (omega (ar
 
 -- Memory out of range.
 pub called-out-of-range : (memory : Memory) (c : Call) → OnMemory c → memoryInRange (view memory) ≡ false → Called memory (step c (view memory)) (done memory 1 0)
-called-out-of-range memory c k h = called-refused memory c 1 (out-of-range c (view memory) k h)
+called-out-of-range memory c k h = called-refused memory (step c (view memory)) 1 (out-of-range c (view memory) k h)
 
 -- The same call by another name.
 pub called-as : (memory : Memory) (c d : Call) (r : Done) → d ≡ c → Called memory (step c (view memory)) r → Called memory (step d (view memory)) r

@@ -10,7 +10,7 @@ use Rattle.base.proofs.Booleans.{choose}
 use Rattle.base.specs.Results.{Result, refused, accepted}
 use Rattle.model.specs.Memory.{memoryInRange}
 use Rattle.model.specs.Calls.{Call, Effect, step, run, Traced, traced, trace}
-use Rattle.model.specs.Events.{notEvent, callOf, Event, calls, traces, noEvent, eventOf, callsIn}
+use Rattle.model.specs.Events.{notEvent, callOf, Event, calls, traces, noEvent, noEventAnswer, eventOf, callsIn}
 use Rattle.model.specs.Printout.{Line, line, resultLine, lineOf}
 use Rattle.model.proofs.Tracing.{trace-out-of-range}
 use Rattle.model.proofs.EventLaws.{call-on-memory, run-call, run-trace, run-no-event}
@@ -26,7 +26,7 @@ use Rattle.steps.proofs.CallLaws.{called-out-of-range, called-after, ca
 module _ (memory : Memory) (e : Event) where
   -- No event, a Trace, and a call.
   pub happens-none : e ≡ noEvent → memoryInRange (view memory) ≡ true → Happens memory e (happened memory 11 0 0)
-  unfolding Happens
+  unfolding Happens noEventAnswer
   happens-none q h = subst (λ z. Happens memory z (happened memory 11 0 0)) (sym q) (rw h)
 
   pub happens-trace : (a t answer hops : ℕ) → e ≡ traces a t → traced answer hops ≡ trace (view memory) a t → Happens memory e (happened memory answer 0 hops)
@@ -40,7 +40,7 @@ module _ (memory : Memory) (e : Event) where
 
 -- Memory out of range.
 pub happens-out-of-range : (memory : Memory) (kind a b : ℕ) → memoryInRange (view memory) ≡ false → Happens memory (eventOf kind a b) (happened memory 1 0 0)
-unfolding Happens eventOf
+unfolding Happens eventOf noEventAnswer
 happens-out-of-range memory kind a b h =
     choose (λ z. Happens memory z (happened memory 1 0 0)) (notEvent kind b) (λ e. rw h)
     (λ e. choose (λ z. Happens memory z (happened memory 1 0 0)) (eqb kind 9)
@@ -79,14 +79,12 @@ module _ (memory : Memory) (index kind a b : ℕ) where
   abbrev numbers : Happened → Line
   numbers r = line index kind a b (r .answer) (r .sent) (r .memory .air .count) (r .hops)
 
-  pub happens-line : (e : Event) (r : Happened) → Happens memory e r → memoryInRange (view memory) ≡ true
+  pub happens-line : (e : Event) (r : Happened) → Happens memory e r
       → lineOf index kind a b (view memory) e ≡ line index kind a b (r .answer) (r .sent) (r .memory .air .count) (r .hops)
   unfolding Happens lineOf
-  happens-line (calls c) r h m =
+  happens-line (calls c) r h =
       called-line (step c (view memory)) (done (r .memory) (r .answer) (r .sent)) (h .0)
       ∙ ap (line index kind a b (r .answer) (r .sent) (r .memory .air .count)) (sym (h .1))
-  happens-line (traces x t) r h m =
+  happens-line (traces x t) r h =
       ap (λ (c : ℕ). line index kind a b (trace (view memory) x t .answer) 0 c (trace (view memory) x t .hops)) (air-count memory) ∙ ap numbers (sym h)
-  happens-line noEvent r h m =
-      ap (λ (c : ℕ). line index kind a b 11 0 c 0) (air-count memory) ∙ ap (λ (z : Bool). line index kind a b (if z then 11 else 1) 0 (memory .air .count) 0) (sym m)
-      ∙ ap numbers (sym h)
+  happens-line noEvent r h = ap (λ (c : ℕ). line index kind a b (noEventAnswer (view memory)) 0 c 0) (air-count memory) ∙ ap numbers (sym h)

@@ -2,10 +2,9 @@
 use Prim.Native.Nat.{ℕ}
 use mathlib.Core.Path.{_≡_}
 use mathlib.Core.Bool.{true}
-use mathlib.Core.List.{List, [], _∷_}
 use Rattle.base.specs.Results.{Result, refused, accepted}
 use Rattle.model.specs.Memory.{memoryInRange}
-use Rattle.model.specs.Calls.{Call, Effect, effect, step}
+use Rattle.model.specs.Calls.{Effect, effect}
 use Rattle.network.specs.declared.Memory.{Memory}
 use Rattle.network.specs.View.{view}
 use Rattle.steps.specs.declared.Done.{Done}
@@ -23,8 +22,3 @@ effectOf r = effect (r .answer) (r .sent) (view (r .memory))
 unfoldable pub Called : Memory → Result Effect → Done → Type 0
 Called memory (refused number) r = r ≡ done memory number 0
 Called memory (accepted e) r = (effectOf r ≡ e) × (memoryInRange (view (r .memory)) ≡ true)
-
--- "Each call gets the memory that the one before it returned or left": these calls, made on this memory one after the other, leave that.
-abbrev pub History : List Call → Memory → Memory → Type 0
-History [] memory left = left ≡ memory
-History (c ∷ calls) memory left = (r : Done) × Called memory (step c (view memory)) r × History calls (r .memory) left

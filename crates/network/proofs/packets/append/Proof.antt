@@ -36,7 +36,8 @@ use denote.Exit.{yes}
 use Rattle.network.specs.declared.Packet.{Packet}
 use Rattle.network.specs.declared.Air.{Air}
 use Rattle.network.proofs.PacketLaws.{appended-air}
-use Rattle.network.proofs.Lent.{packet-vals, ValidPacket, packet-typed, air-of, air-vals, ValidAir, air-typed, air-long, air-counts}
+use Rattle.network.proofs.Lent.{packet-vals, ValidPacket, packet-typed, air-of, air-vals, air-typed, air-counts}
+use Rattle.network.proofs.Lengths.{ValidAir, packets-length}
 use Rattle.network.proofs.Lent.{slice-type, slice-of, Slice, local, var, owns-packet, owns-number, Left, ended, calls-lent, exits-air}
 use Rattle.network.proofs.Packet as packet
 use Rattle.network.proofs.Packet.Laws as packet′
@@ -68,7 +69,7 @@ module _ {M : Type 1} (𝓤 : URA M) (H : Heap 𝓤) (A : Atoms 𝓤) (W : Given
   entry = ((tt, tt, tt, (a, (p, tt)), (air-vals a, (packet-vals p, tt))), tt)
 
   long : length (a .packets) ≡ 128
-  long = air-long a valid
+  long = packets-length a valid
 
   -- What the array holds after the call, and the air at exit.
   abbrev next : List Packet

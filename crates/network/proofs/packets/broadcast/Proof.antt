@@ -8,13 +8,13 @@ use borrow.Author.Needs.{needs}
 use Rattle.base.specs.Lists.{below}
 use Rattle.base.proofs.Booleans.{cases}
 use Rattle.base.proofs.Loops.{below-yes, below-no, below-next, map-below-yes, map-below-no}
-use Rattle.base.proofs.Lists.{unmapped}
 use Rattle.model.specs.Memory as model
 use Rattle.model.specs.Memory.{linkIn}
 use Rattle.model.specs.Calls.{packet}
 use Rattle.model.proofs.Links.{link-at}
 use Rattle.network.specs.declared.Air.{Air}
 use Rattle.network.specs.View.{bodyOf, airOf}
+use Rattle.network.proofs.Lengths.{packets-length}
 use Rattle.network.proofs.PacketLaws.{Held, held-more}
 use Rattle.network.proofs.packets.broadcast.Statement.{statement}
 use Rattle.network.proofs.packets.broadcast.Tie as tie
@@ -31,8 +31,7 @@ abbrev μ-loop : tie.MeasureT-loop
 loop-holds : tie.Need-loop-holds Inv-loop μ-loop
 unfolding airOf below
 loop-holds c =
-    let long = unmapped _ (c .args .t1 .packets) 128 (c .good .0 .1 .1 .0 .1 .0 .1) in
-    (omega arith, omega arith, record { room = long; list = sym (append-nil (airOf (c .args .t1))) })
+    (omega arith, omega arith, record { room = packets-length (c .args .t1) (c .good .0); list = sym (append-nil (airOf (c .args .t1))) })
 
 pair-place-requires : tie.Need-pair-place-requires Inv-loop μ-loop
 pair-place-requires c κs = search needs

@@ -39,7 +39,8 @@ use Rattle.base.specs.Lists.{removed}
 use Rattle.network.specs.declared.Packet.{Packet}
 use Rattle.network.specs.declared.Air.{Air}
 use Rattle.network.proofs.PacketLaws.{removed-air}
-use Rattle.network.proofs.Lent.{air-of, air-vals, ValidAir, air-typed, air-long, air-counts}
+use Rattle.network.proofs.Lent.{air-of, air-vals, air-typed, air-counts}
+use Rattle.network.proofs.Lengths.{ValidAir, packets-length}
 use Rattle.network.proofs.Lent.{slice-type, slice-of, Slice, local, var, owns-number, Left, ended, calls-lent, exits-air}
 use Rattle.network.proofs.Air as air
 use Rattle.network.proofs.Air.Laws as air′
@@ -69,7 +70,7 @@ module _ {M : Type 1} (𝓤 : URA M) (H : Heap 𝓤) (A : Atoms 𝓤) (W : Given
   entry = ((tt, tt, tt, (a, (k, tt)), (air-vals a, (vint w64 k ∷ [], tt))), tt)
 
   long : length (a .packets) ≡ 128
-  long = air-long a valid
+  long = packets-length a valid
 
   -- What the array holds after the call, and the air at exit.
   abbrev next : List Packet

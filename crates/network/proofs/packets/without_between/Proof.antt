@@ -7,9 +7,9 @@ use borrow.Author.Needs.{needs}
 use Rattle.base.specs.Lists.{keep, tabulate}
 use Rattle.base.proofs.Booleans.{cases, not-was-true, not-was-false}
 use Rattle.base.proofs.Loops.{keep-yes, keep-no}
-use Rattle.base.proofs.Lists.{unmapped}
 use Rattle.network.specs.declared.Air.{Air}
 use Rattle.network.specs.View.{airOf}
+use Rattle.network.proofs.Lengths.{packets-length}
 use Rattle.network.proofs.PacketLaws.{packetIn, apart, Held, held-more}
 use Rattle.network.proofs.packets.without_between.Statement.{statement}
 use Rattle.network.proofs.packets.without_between.Tie as tie
@@ -24,8 +24,7 @@ abbrev μ-loop : tie.MeasureT-loop
 loop-holds : tie.Need-loop-holds Inv-loop μ-loop
 unfolding tabulate keep
 loop-holds c =
-    let long = unmapped _ (c .args .t1 .packets) 128 (c .good .0 .1 .1 .0 .1 .0 .1) in
-    (omega arith, omega arith, record { room = long; list = refl })
+    (omega arith, omega arith, record { room = packets-length (c .args .t1) (c .good .0); list = refl })
 
 cast-p : tie.Need-cast-p Inv-loop μ-loop
 cast-p c = search needs

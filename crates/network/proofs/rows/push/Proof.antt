@@ -1,7 +1,7 @@
 -- `rows::push` meets its contract: an entry written at the count is one more.
 use native.Mathlib.Omega.{arith}
 use borrow.Author.Needs.{needs}
-use Rattle.base.proofs.Lists.{unmapped}
+use Rattle.network.proofs.Lengths.{row-lengths}
 use Rattle.network.proofs.RowLaws.{row-push}
 use Rattle.network.proofs.rows.push.Statement.{statement}
 use Rattle.network.proofs.rows.push.Tie as tie
@@ -22,9 +22,7 @@ add-next : tie.Need-add-next
 add-next c = search needs
 
 returns : tie.Need-returns
-returns c =
-    let long = unmapped _ (c .args .row .labels) 4 (c .good .0 .1 .1 .0 .1 .0 .1) in
-    row-push (c .args .row) (record { stations-length = search needs; labels-length = long }) _ _ (omega arith)
+returns c = row-push (c .args .row) (row-lengths (c .args .row) (c .good .0)) _ _ (omega arith)
 
 pub push-spec : {M : Type 1} → statement M
 push-spec = tie.close (tie.spec cast-at element-write-next mul-label element-set-from-label add-next returns)

@@ -5,11 +5,11 @@ use lib.ListN.{length, set}
 use native.Mathlib.Omega.{arith}
 use borrow.Author.Needs.{needs}
 use Rattle.base.proofs.Loops.{index-within, index-outside}
-use Rattle.base.proofs.Lists.{unmapped}
 use Rattle.model.specs.Memory as model
 use Rattle.model.specs.Memory.{names}
 use Rattle.model.proofs.Rows.{room-length, put-again, put-last}
 use Rattle.network.specs.View.{successor, rowOf}
+use Rattle.network.proofs.Lengths.{row-lengths}
 use Rattle.network.proofs.RowLaws.{row-length, row-set}
 use Rattle.network.proofs.rows.put.Statement.{statement}
 use Rattle.network.proofs.rows.put.Tie as tie
@@ -54,9 +54,8 @@ returns-2 c =
     let row = start .args .row in
     let e = successor (start .args .station) (start .args .label) in
     let at = c .before .find .ensures in
-    let long = unmapped _ (row .labels) 4 (start .good .0 .1 .1 .0 .1 .0 .1) in
     let some = index-within (names (start .args .station)) (rowOf row) (omega (arith, row-length row, at)) in
-    row-set row (record { stations-length = search needs; labels-length = long }) _ _ _ (omega arith)
+    row-set row (row-lengths row (start .good .0)) _ _ _ (omega arith)
     ∙ ap (λ k. set (rowOf row) k e) at ∙ sym (put-again e (rowOf row) some)
 
 pub put-spec : {M : Type 1} → statement M

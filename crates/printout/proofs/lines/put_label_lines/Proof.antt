@@ -6,7 +6,8 @@ use native.Mathlib.Omega.{arith}
 use borrow.Author.Needs.{needs}
 use Rattle.model.specs.Printout.{labelLines}
 use Rattle.network.specs.View.{view}
-use Rattle.network.proofs.Ranged.{Ranged, sized, in-range-ranged}
+use Rattle.network.proofs.Lengths.{sized}
+use Rattle.network.proofs.Ranged.{Ranged, in-range-ranged}
 use Rattle.printout.specs.Text.{labelText}
 use Rattle.printout.specs.Contracts.{Puts}
 use Rattle.printout.proofs.TextLaws.{puts-none, puts-append, puts-length}
@@ -25,7 +26,7 @@ abbrev μ-loop : tie.MeasureT-loop
 ranged : (c : tie.Start Inv-loop μ-loop) → Ranged (c .args .memory)
 ranged c =
     in-range-ranged (c .args .memory)
-    (sized (c .args .memory) _ _ (c .good .1 .1 .0 .1 .1 .1 .1 .1 .0 .1 .0 .1) (c .good .1 .1 .0 .1 .1 .1 .1 .1 .1 .0 .1 .0 .1) (search needs))
+    (sized (c .args .memory) (c .good .1 .1 .0))
     (c .pre .0)
 
 loop-holds : tie.Need-loop-holds Inv-loop μ-loop

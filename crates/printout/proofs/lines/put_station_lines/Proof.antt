@@ -8,7 +8,8 @@ use Rattle.base.specs.Lists.{below}
 use Rattle.model.specs.Memory.{place}
 use Rattle.model.specs.Printout.{isListed, stationLines}
 use Rattle.network.specs.View.{labelOf, view}
-use Rattle.network.proofs.Ranged.{Ranged, sized, in-range-ranged}
+use Rattle.network.proofs.Lengths.{sized}
+use Rattle.network.proofs.Ranged.{Ranged, in-range-ranged}
 use Rattle.printout.specs.Contracts.{Puts}
 use Rattle.printout.proofs.TextLaws.{puts-none, puts-append, puts-length}
 use Rattle.printout.proofs.LineLaws.{listed-at, line-at, textBelow, text-yes, text-no}
@@ -25,7 +26,7 @@ abbrev μ-loop : tie.MeasureT-loop
 ranged : (c : tie.Start Inv-loop μ-loop) → Ranged (c .args .t3)
 ranged c =
     in-range-ranged (c .args .t3)
-    (sized (c .args .t3) _ _ (c .good .1 .1 .0 .1 .1 .1 .1 .1 .0 .1 .0 .1) (c .good .1 .1 .0 .1 .1 .1 .1 .1 .1 .0 .1 .0 .1) (search needs))
+    (sized (c .args .t3) (c .good .1 .1 .0))
     (c .pre .0 .0)
 
 loop-holds : tie.Need-loop-holds Inv-loop μ-loop

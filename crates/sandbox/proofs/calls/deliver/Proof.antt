@@ -8,7 +8,8 @@ use Rattle.model.specs.Memory.{memoryInRange}
 use Rattle.model.specs.Calls.{Deliver}
 use Rattle.model.proofs.Refusals.{deliver-6}
 use Rattle.network.specs.View.{view}
-use Rattle.network.proofs.Ranged.{sized, Ranged, in-range-ranged}
+use Rattle.network.proofs.Lengths.{sized}
+use Rattle.network.proofs.Ranged.{Ranged, in-range-ranged}
 use Rattle.steps.proofs.CallLaws.{called-refused, called-out-of-range}
 use Rattle.steps.proofs.DeliveryLaws.{packetOn, kind-none, kind-there}
 use Rattle.sandbox.proofs.calls.deliver.Statement.{statement}
@@ -22,7 +23,7 @@ known : (c : tie.Else1) → Ranged (c .before .before .args .memory)
 known c =
     let start = c .before .before in
     in-range-ranged (start .args .memory)
-    (sized (start .args .memory) _ _ (start .good .0 .1 .1 .1 .1 .1 .0 .1 .0 .1) (start .good .0 .1 .1 .1 .1 .1 .1 .0 .1 .0 .1) (search needs)) (ranged c)
+    (sized (start .args .memory) (start .good .0)) (ranged c)
 
 there : (c : tie.Else2) → let start = c .before .before .before .before .before in
     (start .args .k < start .args .memory .air .count) × (packetOn (start .args .memory) (start .args .k) .kind ≡ c .before .kind-of .result)

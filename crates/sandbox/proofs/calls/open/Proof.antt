@@ -9,13 +9,13 @@ use Rattle.model.specs.Calls.{effect, notOpening}
 use Rattle.model.proofs.Range.{Sized}
 use Rattle.model.proofs.Refusals.{open-1, open-accepted, opening-tells}
 use Rattle.network.specs.View.{view}
-use Rattle.network.proofs.Ranged.{sized}
+use Rattle.network.proofs.Lengths.{sized}
 use Rattle.steps.proofs.CallLaws.{called-refused, called-accepted}
 use Rattle.sandbox.proofs.calls.open.Statement.{statement}
 use Rattle.sandbox.proofs.calls.open.Tie as tie
 
 sizes : (c : tie.Start) → Sized (view (c .args .memory))
-sizes c = sized (c .args .memory) _ _ (c .good .0 .1 .1 .1 .1 .1 .0 .1 .0 .1) (c .good .0 .1 .1 .1 .1 .1 .1 .0 .1 .0 .1) (search needs)
+sizes c = sized (c .args .memory) (c .good .0)
 
 -- Past the test n and start are in range.
 passed : (c : tie.Else1) → notOpening (c .before .before .args .n) (c .before .before .args .start) ≡ false

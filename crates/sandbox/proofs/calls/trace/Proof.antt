@@ -5,7 +5,7 @@ use Rattle.base.proofs.Booleans.{not-was-true, not-was-false}
 use Rattle.model.specs.Calls.{traced, trace}
 use Rattle.model.proofs.Tracing.{trace-out-of-range}
 use Rattle.network.specs.View.{view}
-use Rattle.steps.proofs.TraceLaws.{walks}
+use Rattle.sandbox.proofs.MadeLaws.{reached-ends, made-ends}
 use Rattle.sandbox.proofs.calls.trace.Statement.{statement}
 use Rattle.sandbox.proofs.calls.trace.Tie as tie
 
@@ -16,13 +16,13 @@ in-range-requires : tie.Need-in-range-requires
 in-range-requires c κs = search needs
 
 returns : tie.Need-returns
-returns c = (out-of-range c, walks _ _ _ _ (out-of-range c))
+returns c = (out-of-range c, (made-ends _ _ _ _ (out-of-range c), reached-ends _ _ _ _ (out-of-range c)))
 
 trace-requires : tie.Need-trace-requires
 trace-requires c κs = not-was-true _ _ (c .before .in-range .ensures) (c .if1 .left)
 
 returns-2 : tie.Need-returns-2
-returns-2 c = (c .trace .ensures, walks _ _ _ _ (c .trace .ensures))
+returns-2 c = (c .trace .ensures, (made-ends _ _ _ _ (c .trace .ensures), reached-ends _ _ _ _ (c .trace .ensures)))
 
 pub trace-spec : {M : Type 1} → statement M
 trace-spec = tie.close (tie.spec in-range-requires returns trace-requires returns-2)

@@ -3,7 +3,8 @@ use Prim.Native.Nat.{_<_}
 use mathlib.Core.Path.{_≡_, _∙_}
 use borrow.Author.Needs.{needs}
 use Rattle.model.proofs.Refusals.{deliver-6}
-use Rattle.network.proofs.Ranged.{sized, Ranged, in-range-ranged}
+use Rattle.network.proofs.Lengths.{sized}
+use Rattle.network.proofs.Ranged.{Ranged, in-range-ranged}
 use Rattle.steps.proofs.CallLaws.{called-refused}
 use Rattle.steps.proofs.DeliveryLaws.{packetOn, kind-none, kind-there}
 use Rattle.steps.proofs.delivery.deliver.Statement.{statement}
@@ -12,7 +13,7 @@ use Rattle.steps.proofs.delivery.deliver.Tie as tie
 known : (c : tie.Start) → Ranged (c .args .memory)
 known c =
     in-range-ranged (c .args .memory)
-    (sized (c .args .memory) _ _ (c .good .0 .1 .1 .1 .1 .1 .0 .1 .0 .1) (c .good .0 .1 .1 .1 .1 .1 .1 .0 .1 .0 .1) (search needs)) (c .pre)
+    (sized (c .args .memory) (c .good .0)) (c .pre)
 
 -- Past the first test there is such a packet.
 there : (c : tie.Else1) → let start = c .before .before .before in

@@ -13,7 +13,8 @@ use Rattle.model.proofs.Refusals.{deliver-limited}
 use Rattle.network.specs.View.{airOf, view}
 use Rattle.network.proofs.ViewLaws.{body-error}
 use Rattle.network.proofs.PacketLaws.{air-length}
-use Rattle.network.proofs.Ranged.{sized, Ranged, in-range-ranged}
+use Rattle.network.proofs.Lengths.{sized}
+use Rattle.network.proofs.Ranged.{Ranged, in-range-ranged}
 use Rattle.station.specs.Reacting.{sentBy}
 use Rattle.station.proofs.Laws.{sent-few}
 use Rattle.steps.proofs.CallLaws.{called-refused, called-accepted}
@@ -22,7 +23,7 @@ use Rattle.steps.proofs.delivery.deliver_error.Statement.{statement}
 use Rattle.steps.proofs.delivery.deliver_error.Tie as tie
 
 sizes : (c : tie.Start) → Sized (view (c .args .memory))
-sizes c = sized (c .args .memory) _ _ (c .good .0 .1 .1 .1 .1 .1 .0 .1 .0 .1) (c .good .0 .1 .1 .1 .1 .1 .1 .0 .1 .0 .1) (search needs)
+sizes c = sized (c .args .memory) (c .good .0)
 
 known : (c : tie.Start) → Ranged (c .args .memory)
 known c = in-range-ranged (c .args .memory) (sizes c) (c .pre .0)

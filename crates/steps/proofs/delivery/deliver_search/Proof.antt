@@ -13,7 +13,8 @@ use Rattle.model.proofs.Refusals.{deliver-limited}
 use Rattle.network.specs.View.{zeroRow, zeroRecord, labelOf, view}
 use Rattle.network.proofs.ViewLaws.{number-at, Labels}
 use Rattle.network.proofs.PacketLaws.{air-length}
-use Rattle.network.proofs.Ranged.{sized, Carried, Ranged, in-range-ranged}
+use Rattle.network.proofs.Lengths.{sized}
+use Rattle.network.proofs.Ranged.{Carried, Ranged, in-range-ranged}
 use Rattle.station.specs.Reacting.{Holds, reacts}
 use Rattle.station.specs.Replying.{Ready}
 use Rattle.station.proofs.Laws.{sent-few}
@@ -23,7 +24,7 @@ use Rattle.steps.proofs.delivery.deliver_search.Statement.{statement}
 use Rattle.steps.proofs.delivery.deliver_search.Tie as tie
 
 sizes : (c : tie.Start) → Sized (view (c .args .t1))
-sizes c = sized (c .args .t1) _ _ (c .good .0 .1 .1 .1 .1 .1 .0 .1 .0 .1) (c .good .0 .1 .1 .1 .1 .1 .1 .0 .1 .0 .1) (search needs)
+sizes c = sized (c .args .t1) (c .good .0)
 
 known : (c : tie.Start) → Ranged (c .args .t1)
 known c = in-range-ranged (c .args .t1) (sizes c) (c .pre .0)

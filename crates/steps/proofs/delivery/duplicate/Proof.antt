@@ -8,14 +8,14 @@ use Rattle.model.proofs.Range.{Sized}
 use Rattle.model.proofs.Refusals.{duplicate-6, duplicate-limited}
 use Rattle.network.specs.View.{view}
 use Rattle.network.proofs.PacketLaws.{air-length}
-use Rattle.network.proofs.Ranged.{sized}
+use Rattle.network.proofs.Lengths.{sized}
 use Rattle.steps.proofs.CallLaws.{called-refused, called-accepted}
 use Rattle.steps.proofs.DeliveryLaws.{duplicate-full, duplicate-room, duplicate-done}
 use Rattle.steps.proofs.delivery.duplicate.Statement.{statement}
 use Rattle.steps.proofs.delivery.duplicate.Tie as tie
 
 sizes : (c : tie.Start) → Sized (view (c .args .memory))
-sizes c = sized (c .args .memory) _ _ (c .good .0 .1 .1 .1 .1 .1 .0 .1 .0 .1) (c .good .0 .1 .1 .1 .1 .1 .1 .0 .1 .0 .1) (search needs)
+sizes c = sized (c .args .memory) (c .good .0)
 
 -- Past the first test k is a packet.
 there : (c : tie.Else1) → notPacket (view (c .before .before .args .memory)) (c .before .before .args .k) ≡ false

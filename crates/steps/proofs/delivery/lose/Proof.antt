@@ -7,13 +7,14 @@ use Rattle.model.proofs.Range.{Sized}
 use Rattle.model.proofs.Refusals.{lose-6, lose-accepted}
 use Rattle.network.specs.View.{view}
 use Rattle.network.proofs.PacketLaws.{air-length}
-use Rattle.network.proofs.Ranged.{sized, in-range-ranged}
+use Rattle.network.proofs.Lengths.{sized}
+use Rattle.network.proofs.Ranged.{in-range-ranged}
 use Rattle.steps.proofs.CallLaws.{called-refused, called-accepted}
 use Rattle.steps.proofs.delivery.lose.Statement.{statement}
 use Rattle.steps.proofs.delivery.lose.Tie as tie
 
 sizes : (c : tie.Start) → Sized (view (c .args .memory))
-sizes c = sized (c .args .memory) _ _ (c .good .0 .1 .1 .1 .1 .1 .0 .1 .0 .1) (c .good .0 .1 .1 .1 .1 .1 .1 .0 .1 .0 .1) (search needs)
+sizes c = sized (c .args .memory) (c .good .0)
 
 cast-count : tie.Need-cast-count
 cast-count c = search needs

@@ -10,7 +10,8 @@ use Rattle.model.specs.Memory as model
 use Rattle.model.proofs.Range.{Sized}
 use Rattle.network.specs.declared.Air.{Air}
 use Rattle.network.specs.View.{view}
-use Rattle.network.proofs.Ranged.{sized, Ranged, in-range-ranged}
+use Rattle.network.proofs.Lengths.{sized}
+use Rattle.network.proofs.Ranged.{Ranged, in-range-ranged}
 use Rattle.station.specs.Reacting.{sentBy}
 use Rattle.steps.proofs.CallLaws.{called-refused, called-accepted}
 use Rattle.steps.proofs.LinkLaws.{row-short, first-lost, second-lost, rows-parted, air-parted, links-parted, errors-sent}
@@ -19,7 +20,7 @@ use Rattle.steps.proofs.linking.part.Statement.{statement}
 use Rattle.steps.proofs.linking.part.Tie as tie
 
 sizes : (c : tie.Start) → Sized (view (c .args .memory))
-sizes c = sized (c .args .memory) _ _ (c .good .0 .1 .1 .1 .1 .1 .0 .1 .0 .1) (c .good .0 .1 .1 .1 .1 .1 .1 .0 .1 .0 .1) (search needs)
+sizes c = sized (c .args .memory) (c .good .0)
 
 known : (c : tie.Start) → Ranged (c .args .memory)
 known c = in-range-ranged (c .args .memory) (sizes c) (c .pre .0)

@@ -10,13 +10,14 @@ use Rattle.model.specs.Calls.{notStation}
 use Rattle.model.proofs.Range.{Sized}
 use Rattle.model.proofs.Refusals.{give-up-2, give-up-5, give-up-accepted}
 use Rattle.network.specs.View.{view}
-use Rattle.network.proofs.Ranged.{sized, Ranged, in-range-ranged}
+use Rattle.network.proofs.Lengths.{sized}
+use Rattle.network.proofs.Ranged.{Ranged, in-range-ranged}
 use Rattle.steps.proofs.CallLaws.{called-refused, called-accepted}
 use Rattle.steps.proofs.stations.give_up.Statement.{statement}
 use Rattle.steps.proofs.stations.give_up.Tie as tie
 
 sizes : (c : tie.Start) → Sized (view (c .args .t1))
-sizes c = sized (c .args .t1) _ _ (c .good .0 .1 .1 .1 .1 .1 .0 .1 .0 .1) (c .good .0 .1 .1 .1 .1 .1 .1 .0 .1 .0 .1) (search needs)
+sizes c = sized (c .args .t1) (c .good .0)
 
 known : (c : tie.Start) → Ranged (c .args .t1)
 known c = in-range-ranged (c .args .t1) (sizes c) (c .pre)

@@ -14,14 +14,15 @@ use Rattle.model.proofs.Range.{Sized}
 use Rattle.model.proofs.Refusals.{solicit-2, solicit-4, solicit-8, solicit-limited}
 use Rattle.network.specs.View.{labelOf, view}
 use Rattle.network.proofs.ViewLaws.{number-at}
-use Rattle.network.proofs.Ranged.{sized, Ranged, in-range-ranged}
+use Rattle.network.proofs.Lengths.{sized}
+use Rattle.network.proofs.Ranged.{Ranged, in-range-ranged}
 use Rattle.steps.proofs.CallLaws.{called-refused, called-accepted, pair-below}
 use Rattle.steps.proofs.StationLaws.{around, solicit-full, solicit-room, solicit-done}
 use Rattle.steps.proofs.stations.solicit.Statement.{statement}
 use Rattle.steps.proofs.stations.solicit.Tie as tie
 
 sizes : (c : tie.Start) → Sized (view (c .args .t1))
-sizes c = sized (c .args .t1) _ _ (c .good .0 .1 .1 .1 .1 .1 .0 .1 .0 .1) (c .good .0 .1 .1 .1 .1 .1 .1 .0 .1 .0 .1) (search needs)
+sizes c = sized (c .args .t1) (c .good .0)
 
 known : (c : tie.Start) → Ranged (c .args .t1)
 known c = in-range-ranged (c .args .t1) (sizes c) (c .pre)

@@ -13,9 +13,16 @@ Inv-loop n a t rows limit at₀ hops₀ at hops = (hops ≤ limit) × (at < n) �
 abbrev μ-loop : tie.MeasureT-loop
 μ-loop n a t rows limit at₀ hops₀ at hops = limit - hops
 
+-- Where the function starts, and the tracer's bound.
+abbrev first : tie.At-loop Inv-loop μ-loop → tie.Start Inv-loop μ-loop
+first c = c .before .before
+
+bound : (c : tie.At-loop Inv-loop μ-loop) → c .before .most-hops .result ≡ first c .args .n - 1
+bound c = c .before .most-hops .ensures .0
+
 -- How the walk ends at the station of a turn, or 0.
 abbrev ends : tie.At-loop Inv-loop μ-loop → ℕ
-ends c = endingAt (c .loop .at) (c .before .args .t) (held (c .before .args .t1) (c .loop .at) (c .before .args .t) .count)
+ends c = endingAt (c .loop .at) (first c .args .t) (held (first c .args .t1) (c .loop .at) (first c .args .t) .count)
 
 -- The test in a turn, and the one after the last, give that.
 abbrev turn : tie.After-ending Inv-loop μ-loop → tie.At-loop Inv-loop μ-loop
@@ -35,20 +42,20 @@ last-is : (c : tie.After-ending2 Inv-loop μ-loop) → c .ending2 .result ≡ en
 unfolding endingAt
 last-is c = rw (c .before .before .place2 .ensures) at (c .ending2 .ensures)
 
-sub-limit : tie.Need-sub-limit Inv-loop μ-loop
-sub-limit c = omega (arith, c .pre .0)
+most-hops-requires : tie.Need-most-hops-requires Inv-loop μ-loop
+most-hops-requires c κs = search needs
 
 loop-holds : tie.Need-loop-holds Inv-loop μ-loop
-loop-holds c = (omega arith, c .pre .0 .1, rest-whole _ _ _ _)
+loop-holds c = (omega arith, c .before .pre .0 .1, rest-whole _ _ _ _)
 
 place-requires : tie.Need-place-requires Inv-loop μ-loop
 place-requires c κs = search needs
 
 mul-row : tie.Need-mul-row Inv-loop μ-loop
-mul-row c = record { fits = omega (arith, c .place .ensures, c .before .before .before .pre .0) }
+mul-row c = record { fits = omega (arith, c .place .ensures, first (c .before .before) .pre .0) }
 
 array-copy-out-row : tie.Need-array-copy-out-row Inv-loop μ-loop
-array-copy-out-row c = omega (arith, c .place .ensures, c .before .before .before .pre .0)
+array-copy-out-row c = omega (arith, c .place .ensures, first (c .before .before) .pre .0)
 
 ending-requires : tie.Need-ending-requires Inv-loop μ-loop
 ending-requires c κs = search needs
@@ -60,7 +67,7 @@ element-copy-out-at : tie.Need-element-copy-out-at Inv-loop μ-loop
 element-copy-out-at c = search needs
 
 add-hops : tie.Need-add-hops Inv-loop μ-loop
-add-hops c = record { fits = omega (arith, turn (c .before .before) .before .pre .0) }
+add-hops c = record { fits = omega (arith, first (turn (c .before .before)) .pre .0, bound (turn (c .before .before))) }
 
 loop-less : tie.Need-loop-less Inv-loop μ-loop
 loop-less c = omega arith
@@ -71,18 +78,18 @@ loop-again c =
     let e = goes (c .before) in
     rw (c .before .before .before .before .place .ensures) (
       omega arith,
-      at .before .pre .1 (at .loop .at) (at .loop .inv .1) (goes-on _ _ _ e .1),
-      rest-hops _ _ _ _ _ _ (at .loop .inv .2) e (omega arith),
+      first at .pre .1 (at .loop .at) (at .loop .inv .1) (goes-on _ _ _ e .1),
+      rest-hops _ _ _ _ _ _ (at .loop .inv .2) e (omega (arith, bound at)),
     )
 
 place-requires-2 : tie.Need-place-requires-2 Inv-loop μ-loop
 place-requires-2 c κs = search needs
 
 mul-row-2 : tie.Need-mul-row-2 Inv-loop μ-loop
-mul-row-2 c = record { fits = omega (arith, c .place2 .ensures, c .before .before .before .pre .0) }
+mul-row-2 c = record { fits = omega (arith, c .place2 .ensures, first (c .before .before) .pre .0) }
 
 array-copy-out-row-2 : tie.Need-array-copy-out-row-2 Inv-loop μ-loop
-array-copy-out-row-2 c = omega (arith, c .place2 .ensures, c .before .before .before .pre .0)
+array-copy-out-row-2 c = omega (arith, c .place2 .ensures, first (c .before .before) .pre .0)
 
 ending-requires-2 : tie.Need-ending-requires-2 Inv-loop μ-loop
 ending-requires-2 c κs = search needs
@@ -91,7 +98,7 @@ returns-2 : tie.Need-returns-2 Inv-loop μ-loop
 returns-2 c = rest-ends _ _ _ _ _ _ (last (c .before) .loop .inv .2) _ (last-is (c .before)) (c .if2 .taken)
 
 returns-3 : tie.Need-returns-3 Inv-loop μ-loop
-returns-3 c = rest-limit _ _ _ _ _ _ (last (c .before) .loop .inv .2) (sym (last-is (c .before)) ∙ c .if2 .left) (omega arith)
+returns-3 c = rest-limit _ _ _ _ _ _ (last (c .before) .loop .inv .2) (sym (last-is (c .before)) ∙ c .if2 .left) (omega (arith, bound (last (c .before))))
 
 pub follow-spec : {M : Type 1} → statement M
 follow-spec =
@@ -99,7 +106,7 @@ follow-spec =
     (tie.spec
     Inv-loop
     μ-loop
-    sub-limit
+    most-hops-requires
     loop-holds
     place-requires
     mul-row

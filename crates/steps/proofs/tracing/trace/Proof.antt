@@ -10,12 +10,13 @@ use Rattle.model.proofs.Range.{Sized}
 use Rattle.model.proofs.Refusals.{pair-tells}
 use Rattle.model.proofs.Tracing.{trace-no-pair, trace-follows}
 use Rattle.network.specs.View.{view}
-use Rattle.network.proofs.Ranged.{sized, Ranged, in-range-ranged}
+use Rattle.network.proofs.Lengths.{sized}
+use Rattle.network.proofs.Ranged.{Ranged, in-range-ranged}
 use Rattle.steps.proofs.tracing.trace.Statement.{statement}
 use Rattle.steps.proofs.tracing.trace.Tie as tie
 
 sizes : (c : tie.Start) → Sized (view (c .args .memory))
-sizes c = sized (c .args .memory) _ _ (c .good .0 .1 .1 .1 .1 .1 .0 .1 .0 .1) (c .good .0 .1 .1 .1 .1 .1 .1 .0 .1 .0 .1) (search needs)
+sizes c = sized (c .args .memory) (c .good .0)
 
 known : (c : tie.Start) → Ranged (c .args .memory)
 known c = in-range-ranged (c .args .memory) (sizes c) (c .pre)

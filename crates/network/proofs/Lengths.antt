@@ -1,0 +1,70 @@
+-- The lengths of the arrays that a struct holds, from what is known of a value of its type (`good` of a parameter, at the parameter's place). A
+-- field that moves changes this file alone.
+use Prim.Native.Nat.{ℕ}
+use mathlib.Core.Path.{_≡_, _∙_}
+use lib.ListN.{length, length-map}
+use denote.Laws.{Is}
+use denote.Struct.Laws.{vals}
+use Rattle.base.proofs.Lists.{unmapped}
+use Rattle.base.proofs.Loops.{tabulate-length}
+use Rattle.model.specs.Memory.{rowLimit, airLimit}
+use Rattle.model.proofs.Range.{Sized}
+use Rattle.network.specs.declared.Row.{Row}
+use Rattle.network.specs.declared.Air.{Air}
+use Rattle.network.specs.declared.Memory.{Memory}
+use Rattle.network.specs.View.{rowOf, recordOf, labelOf, view}
+use Rattle.network.proofs.Row as row
+use Rattle.network.proofs.Row.Laws as row′
+use Rattle.network.proofs.Air as air
+use Rattle.network.proofs.Air.Laws as air′
+use Rattle.network.proofs.Memory as memory
+use Rattle.network.proofs.Memory.Laws as memory′
+
+-- That machine values stand for a row, an air, a memory.
+abbrev pub ValidRow : Row → Type 0
+ValidRow r = Is row.the-row r (vals row.the-type row′.the-laws r)
+
+abbrev pub ValidAir : Air → Type 0
+ValidAir a = Is air.the-row a (vals air.the-type air′.the-laws a)
+
+abbrev pub ValidMemory : Memory → Type 0
+ValidMemory m = Is memory.the-row m (vals memory.the-type memory′.the-laws m)
+
+pub record RowLengths (r : Row) : Type 0 where
+  pub stations-length : length (r .stations) ≡ rowLimit
+  pub labels-length : length (r .labels) ≡ rowLimit
+
+pub row-lengths : (r : Row) → ValidRow r → RowLengths r
+row-lengths r valid = record {
+  stations-length = unmapped _ (r .stations) rowLimit (valid .1 .1 .1 .0 .1 .0 .1);
+  labels-length = unmapped _ (r .labels) rowLimit (valid .1 .1 .0 .1 .0 .1);
+}
+
+pub packets-length : (a : Air) → ValidAir a → length (a .packets) ≡ airLimit
+packets-length a valid = unmapped _ (a .packets) airLimit (valid .1 .1 .0 .1 .0 .1)
+
+pub record MemoryLengths (m : Memory) : Type 0 where
+  pub rows-length : length (m .rows) ≡ 256
+  pub records-length : length (m .records) ≡ 256
+  pub sought-length : length (m .sought) ≡ 16
+  pub active-length : length (m .active) ≡ 16
+  pub links-length : length (m .links) ≡ 256
+
+pub memory-lengths : (m : Memory) → ValidMemory m → MemoryLengths m
+memory-lengths m valid = record {
+  rows-length = unmapped _ (m .rows) 256 (valid .1 .1 .1 .1 .1 .0 .1 .0 .1);
+  records-length = unmapped _ (m .records) 256 (valid .1 .1 .1 .1 .1 .1 .0 .1 .0 .1);
+  sought-length = unmapped _ (m .sought) 16 (valid .1 .1 .1 .1 .1 .1 .1 .1 .1 .0 .1 .0 .1);
+  active-length = unmapped _ (m .active) 16 (valid .1 .1 .1 .1 .1 .1 .1 .1 .1 .1 .0 .1 .0 .1);
+  links-length = unmapped _ (m .links) 256 (valid .1 .1 .1 .1 .1 .1 .1 .1 .1 .1 .1 .0 .1 .0 .1);
+}
+
+-- So the model's tables have their sizes.
+pub sized : (m : Memory) → ValidMemory m → Sized (view m)
+unfolding view
+sized m valid = let long = memory-lengths m valid in record {
+  labels-length = tabulate-length 256 (labelOf (m .s) (m .m) (m .d));
+  rows-length = length-map (m .rows) rowOf ∙ long .rows-length;
+  records-length = length-map (m .records) recordOf ∙ long .records-length;
+  sought-length = long .sought-length;
+}

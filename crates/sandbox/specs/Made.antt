@@ -1,0 +1,21 @@
+-- Demand 3 of memory by value: memory that the sandbox's own calls made (01, "The list in demand 3").
+use Prim.Native.Nat.{ℕ, _<_}
+use mathlib.Core.Logic.{_≢_}
+use Rattle.model.specs.Calls.{Call, step, Traced}
+use Rattle.model.specs.Walks.{WalksEnd}
+use Rattle.model.specs.Histories.{Made}
+use Rattle.network.specs.declared.Memory.{Memory}
+use Rattle.network.specs.View.{view}
+use Rattle.steps.specs.Called.{done, Called}
+
+-- A call on this memory may end so, as its contract says.
+abbrev pub CallEnds : Call → (memory : Memory) → (answer : ℕ) → (next : Memory) → Type 0
+CallEnds c memory answer next = (sent : ℕ) × Called memory (step c (view memory)) (done next answer sent)
+
+-- An accepted Open and then a list of calls, each on the memory that the one before gave back, made this memory.
+abbrev pub MadeByCalls : Memory → Type 0
+MadeByCalls memory = Made CallEnds memory
+
+-- What demand 3 asks of the walks from a for t in this memory, and of what was told of the tracer's own.
+unfoldable pub WalksEndIn : Memory → (a t : ℕ) → Traced → Type 0
+WalksEndIn memory a t told = a < memory .n → t < memory .n → a ≢ t → WalksEnd (view memory) a t told
