@@ -8,7 +8,8 @@ use native.Mathlib.Nat.{pow-suc, add-zero, zero-add}
 use native.Mathlib.Omega.{arith}
 use mir.Syntax.{w8}
 use mir.Val.{Fits}
-use Rattle.codec.specs.Bytes.{littleEndian, number, over, AllBytes}
+use Rattle.base.specs.Results.{Result, refused, accepted, mapped}
+use Rattle.codec.specs.Bytes.{littleEndian, number, over, putInto, Puts, AllBytes}
 
 -- Elements put one list after the other are put as one list.
 pub sets-append : {A : Type 0} (l : List A) (at : ℕ) (xs ys : List A) → sets (sets l at xs) (at + length xs) ys ≡ sets l at (xs ++ ys)
@@ -38,6 +39,17 @@ sets-over l written h = sets-eq written l 0 (omega arith) ∙ rw zero-add
 
 pub take-sets : {A : Type 0} (l xs : List A) → length xs ≤ length l → take (length xs) (sets l 0 xs) ≡ xs
 take-sets l xs h = ap (take (length xs)) (sets-eq xs l 0 (omega arith)) ∙ take-append-seam xs _
+
+-- Bytes put at the start of a lent array by a call that was turned down, and by one that was accepted.
+module _ {T : Type 0} (tell : Result ℕ → T) (z : Result (List ℕ)) (out : List ℕ) (told : T) where
+  pub puts-refused : (number : ℕ) → z ≡ refused number → told ≡ tell (refused number) → Puts tell z out told out
+  unfolding Puts mapped putInto
+  puts-refused number h e = rw h (e, refl)
+
+  pub puts-accepted : (bytes out′ : List ℕ) → z ≡ accepted bytes → told ≡ tell (accepted (length bytes)) → length bytes ≤ length out
+      → out′ ≡ sets out 0 bytes → Puts tell z out told out′
+  unfolding Puts mapped putInto
+  puts-accepted bytes out′ h e l p = rw h (e, p ∙ sets-over out bytes l)
 
 pub over-first : (written before after : List ℕ) (k : ℕ) → after ≡ over written before → k ≡ length written → (k ≤ length after) × (take k after ≡ written)
 unfolding over

@@ -1,7 +1,9 @@
 -- Numbers in bytes, "little-endian" (01, "Scripts and the printout").
 use Prim.Native.Nat.{ℕ, zero, suc, _+_, _*_, _/_, _%_, _<_}
+use mathlib.Core.Path.{_≡_}
 use mathlib.Core.List.{List, [], _∷_, _++_}
 use lib.ListN.{length, getD, take, drop}
+use Rattle.base.specs.Results.{Result, refused, accepted, mapped}
 
 -- The bytes of v, the lowest first.
 unfoldable pub littleEndian : (width v : ℕ) → List ℕ
@@ -23,6 +25,15 @@ numberAt width bytes at = number (take width (drop at bytes))
 -- An array after these bytes were written at its start: "Places past what is written .. are kept."
 unfoldable pub over : (written before : List ℕ) → List ℕ
 over written before = written ++ drop (length written) before
+
+-- An array after a call that puts bytes at its start: "All" is left where the call is turned down.
+unfoldable pub putInto : Result (List ℕ) → (before : List ℕ) → List ℕ
+putInto (refused number) before = before
+putInto (accepted written) before = over written before
+
+-- Such a call, which tells how many bytes it put there, or the number of the refusal.
+unfoldable pub Puts : {T : Type 0} → (tell : Result ℕ → T) → Result (List ℕ) → (out : List ℕ) → (told : T) → (out′ : List ℕ) → Type 0
+Puts tell result out told out′ = (told ≡ tell (mapped length result)) × (out′ ≡ putInto result out)
 
 -- Every one of them is a byte.
 unfoldable pub AllBytes : List ℕ → Type 0

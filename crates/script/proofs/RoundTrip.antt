@@ -12,82 +12,32 @@ use lib.Dec.{ltb, eqb}
 use borrow.Author.Tests.{le-ltb, eq-eqb, ne-eqb, ltb-false, eqb-true, eqb-false, not-true}
 use Rattle.base.proofs.Lists.{all-below-at}
 use Rattle.base.proofs.Loops.{tabulate-length, tabulate-at}
-use Rattle.base.specs.Results.{Result, refused, accepted}
-use Rattle.codec.specs.Bytes.{littleEndian, number, AllBytes}
+use Rattle.base.specs.Results.{refused, accepted}
+use Rattle.base.proofs.Results.{refuse-holds, refuse-passes}
+use Rattle.codec.specs.Bytes.{littleEndian, number, Puts, AllBytes}
 use Rattle.codec.proofs.ByteLaws.{over-first, all-bytes, little-length, number-little, little-number, bytes-take, bytes-drop}
 use Rattle.model.specs.Calls.{notOpening}
-use Rattle.model.specs.Events.{Event, noEvent, eventAt, eventsOf, notEvent, notEvents}
+use Rattle.model.specs.Events.{Event, noEvent, eventAt, eventsOf, eventLimit, notEvent, notEvents, allEvents}
 use Rattle.model.proofs.Refusals.{opening-tells}
 use Rattle.model.proofs.EventLaws.{events-tell, event-determines}
-use Rattle.script.specs.Script.{Script, script, encoded, eventCount, decoded, notSized, allEvents, noRoom, reading, writing}
+use Rattle.script.specs.Script.{Script, script, encoded, eventCount, decoded, notSized, noRoom, parsing, reading, writing}
 use Rattle.script.specs.declared.Found.{Found}
 use Rattle.script.specs.declared.Written.{Written}
-use Rattle.script.specs.Contracts.{Sized, inArrays, Reads, Writes}
+use Rattle.script.specs.Contracts.{foundOf, Reads, inArrays, writtenOf}
 use Rattle.script.specs.Determined.{events, Determined}
-use Rattle.script.proofs.ScriptLaws.{sized-tell, kinds-length, operands-length, Ends, refuses, reads, ends, reading-10, reading-done, reads-script}
-use Rattle.script.proofs.ScriptLaws.{Listed, WritingEnds, refuses-writing, writes, writing-ends, writing-done, writes-answer, events-length}
-
--- What is turned down is not done, and what is done is one thing.
-abbrev isDone : {A : Type 0} → Result A → Bool
-isDone (refused number) = false
-isDone (accepted x) = true
-
-abbrev valueOf : {A : Type 0} → A → Result A → A
-valueOf x (refused number) = x
-valueOf x (accepted y) = y
-
-same-value : {A : Type 0} (x y : A) → accepted x ≡ accepted y → x ≡ y
-same-value x y e = ap (valueOf x) e
+use Rattle.script.proofs.ScriptLaws.{sized-tell, room-enough, Tested, kinds-length, operands-length, reading-accepted, reading-tells, reads-script}
+use Rattle.script.proofs.ScriptLaws.{Listed, writing-accepted, writing-tells, events-length, puts-script}
 
 -- Sizes that pass.
-sized-right : (events : ℕ) → events ≤ 4_096 → notSized events (11 + 3 * events) ≡ false
+sized-right : (events : ℕ) → events ≤ eventLimit → notSized events (11 + 3 * events) ≡ false
 unfolding notSized
-sized-right events h = rw (le-ltb 4_096 events h, eq-eqb (11 + 3 * events) (11 + 3 * events) refl)
-
-room-enough : (events kinds operands : ℕ) → events ≤ kinds → 2 * events ≤ operands → noRoom events kinds operands ≡ false
-unfolding noRoom
-room-enough events kinds operands h k = rw (le-ltb kinds events h, le-ltb operands (2 * events) k)
-
--- What a script passed that was read, and one that was written.
-module _ (bytes : List ℕ) (s : Script) (kinds operands : ℕ) (e : reading bytes kinds operands ≡ accepted s) where
-  record Readable : Type 0 where
-    is-sized : Sized bytes
-    opens : notOpening (s .n) (s .start) ≡ false
-    all : allEvents (s .kinds) (s .operands) ≡ true
-    is-decoded : decoded bytes ≡ s
-
-  readable : Readable
-  readable = go (ends bytes kinds operands)
-    where
-      go : Ends bytes kinds operands → Readable
-      go (refuses number p q) = absurd (false≢true (ap isDone (sym q ∙ e)))
-      go (reads z a k) =
-          let same = same-value (decoded bytes) s (sym (reading-done bytes kinds operands z a k) ∙ e) in
-          record {
-            is-sized = z;
-            opens = ap (λ (x : Script). notOpening (x .n) (x .start)) (sym same) ∙ z .opens;
-            all = ap (λ (x : Script). allEvents (x .kinds) (x .operands)) (sym same) ∙ a;
-            is-decoded = same;
-          }
+sized-right events h = rw (le-ltb eventLimit events h, eq-eqb (11 + 3 * events) (11 + 3 * events) refl)
 
 -- A script that was read opens a network.
 pub read-opens : (bytes : List ℕ) (s : Script) (kinds operands : ℕ) → reading bytes kinds operands ≡ accepted s → notOpening (s .n) (s .start) ≡ false
-read-opens bytes s kinds operands e = readable bytes s kinds operands e .opens
-
-module _ (s : Script) (bytes : List ℕ) (room : ℕ) (e : writing s room ≡ accepted bytes) where
-  record Writable : Type 0 where
-    is-listed : Listed s room
-    is-encoded : encoded s ≡ bytes
-
-  writable : Writable
-  writable = go (writing-ends s room)
-    where
-      go : WritingEnds s room → Writable
-      go (refuses-writing number p q) = absurd (false≢true (ap isDone (sym q ∙ e)))
-      go (writes l) = record {
-        is-listed = l;
-        is-encoded = same-value (encoded s) bytes (sym (writing-done s room (l .counted) (l .opens) (l .all) (l .fits)) ∙ e);
-      }
+read-opens bytes s kinds operands e =
+    let w = reading-tells bytes kinds operands s e in
+    ap (λ (x : Script). notOpening (x .n) (x .start)) (w .1) ∙ w .0 .opens
 
 -- The parts of a script's bytes.
 module _ (s : Script) where
@@ -141,21 +91,25 @@ module _ (s : Script) where
 written-reads : (s : Script) (bytes : List ℕ) (room kinds operands : ℕ) → s .start < 256 ^ 8
     → writing s room ≡ accepted bytes → length (s .kinds) ≤ kinds → length (s .operands) ≤ operands → reading bytes kinds operands ≡ accepted s
 written-reads s bytes room kinds operands hs e hk ho =
-    let w = writable s bytes room e in
+    let w = writing-tells s room bytes e in
+    let l = w .0 in
     let events = length (s .kinds) in
-    let t = events-tell events (length (s .operands)) (w .is-listed .counted) in
-    let o = opening-tells (s .n) (s .start) (w .is-listed .opens) in
+    let t = events-tell events (length (s .operands)) (l .counted) in
+    let o = opening-tells (s .n) (s .start) (l .opens) in
     let hn : s .n < 256 ^ 1 = omega (arith, o .1) in
     let he : events < 256 ^ 2 = omega (arith, t .0) in
     let count = count-encoded s hn he hs in
     let same = decoded-encoded s hn he hs in
-    let long = events-length s (w .is-listed .counted) in
-    let h9 : ltb (length (encoded s)) 11 ≡ false = le-ltb (length (encoded s)) 11 (omega (arith, long)) in
-    let h10 : notSized (eventCount (encoded s)) (length (encoded s)) ≡ false = ap (λ (k : ℕ). notSized k (length (encoded s))) count ∙ ap (notSized events) long ∙ sized-right events (t .0) in
-    let h12 : noRoom (eventCount (encoded s)) kinds operands ≡ false = ap (λ (k : ℕ). noRoom k kinds operands) count ∙ room-enough events kinds operands hk (omega (arith, t .1, ho)) in
-    let h1 : notOpening (decoded (encoded s) .n) (decoded (encoded s) .start) ≡ false = ap (λ (x : Script). notOpening (x .n) (x .start)) same ∙ w .is-listed .opens in
-    let h11 : allEvents (decoded (encoded s) .kinds) (decoded (encoded s) .operands) ≡ true = ap (λ (x : Script). allEvents (x .kinds) (x .operands)) same ∙ w .is-listed .all in
-    ap (λ (l : List ℕ). reading l kinds operands) (sym (w .is-encoded)) ∙ reading-done (encoded s) kinds operands (record { long = h9; counted = h10; opens = h1 }) h11 h12 ∙ ap accepted same
+    let long = events-length s (l .counted) in
+    let tested : Tested (encoded s) = record {
+      long = le-ltb (length (encoded s)) 11 (omega (arith, long));
+      counted = ap (λ (k : ℕ). notSized k (length (encoded s))) count ∙ ap (notSized events) long ∙ sized-right events (t .0);
+      opens = ap (λ (x : Script). notOpening (x .n) (x .start)) same ∙ l .opens;
+      all = ap (λ (x : Script). allEvents (x .kinds) (x .operands)) same ∙ l .all;
+    } in
+    let room12 : noRoom (length (decoded (encoded s) .kinds)) kinds operands ≡ false =
+    ap (λ (x : Script). noRoom (length (x .kinds)) kinds operands) same ∙ room-enough events kinds operands hk (omega (arith, t .1, ho)) in
+    ap (λ (b : List ℕ). reading b kinds operands) (w .1) ∙ reading-accepted (encoded s) kinds operands tested room12 ∙ ap accepted same
 
 -- A number's bytes in a script are those that it is read from.
 part : (l : List ℕ) (at width : ℕ) → AllBytes l → at + width ≤ length l → littleEndian width (number (take width (drop at l))) ≡ take width (drop at l)
@@ -167,13 +121,13 @@ part l at width b h =
 joined : (l : List ℕ) (at k : ℕ) → take k (drop at l) ++ drop (at + k) l ≡ drop at l
 joined l at k = ap (λ (r : List ℕ). take k (drop at l) ++ r) (sym (drop-drop k at l)) ∙ take-append-drop k (drop at l)
 
-encoded-decoded : (bytes : List ℕ) → AllBytes bytes → Sized bytes → encoded (decoded bytes) ≡ bytes
+encoded-decoded : (bytes : List ℕ) → AllBytes bytes → Tested bytes → encoded (decoded bytes) ≡ bytes
 unfolding encoded decoded eventCount
 encoded-decoded bytes b h =
     let long = sized-tell (eventCount bytes) (length bytes) (h .counted) .1 in
     let n = part bytes 0 1 b (omega (arith, long)) in
     let start = part bytes 3 8 b (omega (arith, long)) in
-    let count = ap (littleEndian 2) (kinds-length bytes h) ∙ part bytes 1 2 b (omega (arith, long)) in
+    let count = ap (littleEndian 2) (kinds-length bytes (h .counted)) ∙ part bytes 1 2 b (omega (arith, long)) in
     (λ i. n i ++ (count i ++ (start i ++ joined bytes 11 (eventCount bytes) i)))
     ∙ ap (λ (r : List ℕ). take 1 bytes ++ (take 2 (drop 1 bytes) ++ r)) (joined bytes 3 8)
     ∙ ap (λ (r : List ℕ). take 1 bytes ++ r) (joined bytes 1 2)
@@ -184,15 +138,17 @@ read-writes : (bytes : List ℕ) (s : Script) (room kinds operands : ℕ) → Al
     → reading bytes kinds operands ≡ accepted s → length bytes ≤ room → writing s room ≡ accepted bytes
 unfolding notEvents
 read-writes bytes s room kinds operands b e hr =
-    let r = readable bytes s kinds operands e in
-    let t = sized-tell (eventCount bytes) (length bytes) (r .is-sized .counted) in
-    let k : length (s .kinds) ≡ eventCount bytes = ap (λ (x : Script). length (x .kinds)) (sym (r .is-decoded)) ∙ kinds-length bytes (r .is-sized) in
-    let o : length (s .operands) ≡ 2 * eventCount bytes =
-    ap (λ (x : Script). length (x .operands)) (sym (r .is-decoded)) ∙ operands-length bytes (r .is-sized) in
-    let h10 : notEvents (length (s .kinds)) (length (s .operands)) ≡ false =
-    rw (le-ltb 4_096 (length (s .kinds)) (omega (arith, k, t .0)), eq-eqb (length (s .operands)) (2 * length (s .kinds)) (omega (arith, k, o))) in
-    let h12 : ltb room (11 + 3 * length (s .kinds)) ≡ false = le-ltb room (11 + 3 * length (s .kinds)) (omega (arith, k, t .1, hr)) in
-    writing-done s room h10 (r .opens) (r .all) h12 ∙ ap accepted (ap encoded (sym (r .is-decoded)) ∙ encoded-decoded bytes b (r .is-sized))
+    let w = reading-tells bytes kinds operands s e in
+    let t = sized-tell (eventCount bytes) (length bytes) (w .0 .counted) in
+    let k : length (s .kinds) ≡ eventCount bytes = ap (λ (x : Script). length (x .kinds)) (w .1) ∙ kinds-length bytes (w .0 .counted) in
+    let o : length (s .operands) ≡ 2 * eventCount bytes = ap (λ (x : Script). length (x .operands)) (w .1) ∙ operands-length bytes (w .0 .counted) in
+    let listed : Listed s room = record {
+      counted = rw (le-ltb eventLimit (length (s .kinds)) (omega (arith, k, t .0)), eq-eqb (length (s .operands)) (2 * length (s .kinds)) (omega (arith, k, o)));
+      opens = read-opens bytes s kinds operands e;
+      all = ap (λ (x : Script). allEvents (x .kinds) (x .operands)) (w .1) ∙ w .0 .all;
+      fits = le-ltb room (11 + 3 * length (s .kinds)) (omega (arith, k, t .1, hr));
+    } in
+    writing-accepted s room listed ∙ ap accepted (ap encoded (w .1) ∙ encoded-decoded bytes b (w .0))
 
 -- The same events have the same kinds and operands.
 module _ (kinds operands kinds′ operands′ : List ℕ) (all : allEvents kinds operands ≡ true) (all′ : allEvents kinds′ operands′ ≡ true)
@@ -211,12 +167,12 @@ module _ (kinds operands kinds′ operands′ : List ℕ) (all : allEvents kinds
       → (getD kinds i 0 ≡ getD kinds′ i 0) × (getD operands (2 * i) 0 ≡ getD operands′ (2 * i) 0) × (getD operands (2 * i + 1) 0 ≡ getD operands′ (2 * i + 1) 0)
   unfolding eventAt allEvents
   same-at i h =
-      let kept : notEvent (getD kinds i 0) (getD operands (2 * i + 1) 0) ≡ false =
+      let event : notEvent (getD kinds i 0) (getD operands (2 * i + 1) 0) ≡ false =
       not-true _ (all-below-at (length kinds) (λ j. not (notEvent (getD kinds j 0) (getD operands (2 * j + 1) 0))) all i h) in
-      let kept′ : notEvent (getD kinds′ i 0) (getD operands′ (2 * i + 1) 0) ≡ false =
+      let event′ : notEvent (getD kinds′ i 0) (getD operands′ (2 * i + 1) 0) ≡ false =
       not-true _ (all-below-at (length kinds′) (λ j. not (notEvent (getD kinds′ j 0) (getD operands′ (2 * j + 1) 0))) all′ i (omega (arith, h, same-count))) in
       event-determines (getD kinds i 0) (getD operands (2 * i) 0) (getD operands (2 * i + 1) 0) (getD kinds′ i 0) (getD operands′ (2 * i) 0) (getD operands′ (2 * i + 1) 0)
-      kept kept′ (same-event i h)
+      event event′ (same-event i h)
 
   same-kinds : kinds ≡ kinds′
   same-kinds = ext-getD 0 kinds kinds′ same-count (λ i h. same-at i h .0)
@@ -239,73 +195,72 @@ same-script : (bytes bytes′ : List ℕ) (s s′ : Script) (kinds operands kind
     → s .n ≡ s′ .n → s .start ≡ s′ .start → events s ≡ events s′ → bytes ≡ bytes′
 unfolding events
 same-script bytes bytes′ s s′ kinds operands kinds′ operands′ b b′ e e′ hn hs he =
-    let r = readable bytes s kinds operands e in
-    let r′ = readable bytes′ s′ kinds′ operands′ e′ in
-    let w = read-writes bytes s (length bytes) kinds operands b e (omega arith) in
-    let w′ = read-writes bytes′ s′ (length bytes′) kinds′ operands′ b′ e′ (omega arith) in
-    let t = events-tell (length (s .kinds)) (length (s .operands)) (writable s bytes (length bytes) w .is-listed .counted) in
-    let t′ = events-tell (length (s′ .kinds)) (length (s′ .operands)) (writable s′ bytes′ (length bytes′) w′ .is-listed .counted) in
-    let k : s .kinds ≡ s′ .kinds = same-kinds (s .kinds) (s .operands) (s′ .kinds) (s′ .operands) (r .all) (r′ .all) he in
-    let o : s .operands ≡ s′ .operands = same-operands (s .kinds) (s .operands) (s′ .kinds) (s′ .operands) (r .all) (r′ .all) he (t .1) (t′ .1) in
+    let w = writing-tells s (length bytes) bytes (read-writes bytes s (length bytes) kinds operands b e (omega arith)) in
+    let w′ = writing-tells s′ (length bytes′) bytes′ (read-writes bytes′ s′ (length bytes′) kinds′ operands′ b′ e′ (omega arith)) in
+    let t = events-tell (length (s .kinds)) (length (s .operands)) (w .0 .counted) in
+    let t′ = events-tell (length (s′ .kinds)) (length (s′ .operands)) (w′ .0 .counted) in
+    let k : s .kinds ≡ s′ .kinds = same-kinds (s .kinds) (s .operands) (s′ .kinds) (s′ .operands) (w .0 .all) (w′ .0 .all) he in
+    let o : s .operands ≡ s′ .operands = same-operands (s .kinds) (s .operands) (s′ .kinds) (s′ .operands) (w .0 .all) (w′ .0 .all) he (t .1) (t′ .1) in
     let same : s ≡ s′ = λ i. script (hn i) (hs i) (k i) (o i) in
-    sym (writable s bytes (length bytes) w .is-encoded) ∙ ap encoded same ∙ writable s′ bytes′ (length bytes′) w′ .is-encoded
+    w .1 ∙ ap encoded same ∙ sym (w′ .1)
 
 pub determined : Determined
 determined = record { written-reads = written-reads; read-writes = read-writes; same-script = same-script }
 
--- On the code: what `write` wrote reads back as what it was given, and what `read` left in its arrays is written back to the same bytes.
-pub write-read : (s : Script) (out out′ : List ℕ) (r : Written) (kinds operands : ℕ) → s .start < 256 ^ 8 → Writes (writing s (length out)) out r out′
-    → r .answer ≡ 0 → length (s .kinds) ≤ kinds → length (s .operands) ≤ operands → reading (take (r .length) out′) kinds operands ≡ accepted s
-unfolding Writes
-write-read s out out′ r kinds operands hs h z hk ho =
-    let e = writes-answer s out out′ r h z in
-    let w = subst (λ (x : Result (List ℕ)). Writes x out r out′) e h in
-    let first = over-first (encoded s) out out′ (r .length) (w .1) (ap (λ (x : Written). x .length) (w .0)) in
-    ap (λ (l : List ℕ). reading l kinds operands) (first .1) ∙ written-reads s (encoded s) (length out) kinds operands hs e hk ho
-
-pub read-write : (bytes kinds operands kinds′ operands′ : List ℕ) (r : Found) (room : ℕ) → AllBytes bytes
-    → Reads (reading bytes (length kinds) (length operands)) kinds operands r kinds′ operands′ → r .answer ≡ 0 → length bytes ≤ room
-    → writing (inArrays r kinds′ operands′) room ≡ accepted bytes
-read-write bytes kinds operands kinds′ operands′ r room b h z hr =
-    let w = reads-script bytes kinds operands r kinds′ operands′ h z in
-    let s = decoded bytes in
-    let k = over-first (s .kinds) kinds kinds′ (r .events) (w .kinds-after) (w .count ∙ sym (kinds-length bytes (w .sized))) in
-    let o = over-first (s .operands) operands operands′ (2 * r .events) (w .operands-after) (ap (λ (e : ℕ). 2 * e) (w .count) ∙ sym (operands-length bytes (w .sized))) in
-    (λ i. writing (script (w .n i) (w .start i) (k .1 i) (o .1 i)) room) ∙ read-writes bytes s room (length kinds) (length operands) b (w .ended) hr
-
--- The two contracts of each function together: how it ended, and the way back.
+-- On the code: what `write` wrote reads back as what it was given, and what `read` left in its arrays is written back to the same bytes. The two
+-- contracts of each function together.
 module _ (s : Script) (out out′ : List ℕ) (r : Written) where
   abbrev pub HasWritten : Type 0
-  HasWritten = Writes (writing s (length out)) out r out′
+  HasWritten = Puts writtenOf (writing s (length out)) out r out′
 
   abbrev pub ReadBack : Type 0
-  ReadBack = r .answer ≡ 0 → reading (take (r .length) out′) (length (s .kinds)) (length (s .operands)) ≡ accepted s
+  ReadBack = r .answer ≡ 0 → reading (take (r .bytes) out′) (length (s .kinds)) (length (s .operands)) ≡ accepted s
 
   pub with-read-back : Fits w64 (s .start) → HasWritten → HasWritten × ReadBack
-  with-read-back hs h =
-      (h, λ z. write-read s out out′ r (length (s .kinds)) (length (s .operands)) (omega (arith, hs)) h z (omega arith) (omega arith))
+  with-read-back hs h = (h, back)
+    where
+      back : ReadBack
+      back z =
+          let w = puts-script s out out′ r h z in
+          let first = over-first (encoded s) out out′ (r .bytes) (w .2) (w .1) in
+          ap (λ (l : List ℕ). reading l (length (s .kinds)) (length (s .operands))) (first .1)
+          ∙ written-reads s (encoded s) (length out) (length (s .kinds)) (length (s .operands)) (omega (arith, hs)) (w .0) (omega arith) (omega arith)
 
 module _ (bytes kinds operands kinds′ operands′ : List ℕ) (r : Found) where
   abbrev pub HasRead : Type 0
-  HasRead = Reads (reading bytes (length kinds) (length operands)) kinds operands r kinds′ operands′
+  HasRead = Reads foundOf (reading bytes (length kinds) (length operands)) kinds operands r kinds′ operands′
 
   abbrev pub WrittenBack : Type 0
   WrittenBack = r .answer ≡ 0 → writing (inArrays r kinds′ operands′) (length bytes) ≡ accepted bytes
 
   pub with-written-back : ((i : ℕ) → Fits w8 (getD bytes i 0)) → HasRead → HasRead × WrittenBack
-  with-written-back b h = (h, λ z. read-write bytes kinds operands kinds′ operands′ r (length bytes) (all-bytes bytes b) h z (omega arith))
+  unfolding foundOf
+  with-written-back b h = (h, back)
+    where
+      back : WrittenBack
+      back z =
+          let w = reads-script bytes kinds operands r kinds′ operands′ h z in
+          let s = decoded bytes in
+          let is = w .told .is-found in
+          let e : r .events ≡ length (s .kinds) = ap (λ (x : Found). x .events) is in
+          let twice : 2 * r .events ≡ length (s .operands) = ap (λ (x : ℕ). 2 * x) (w .told .count) ∙ sym (operands-length bytes (w .told .tested .counted)) in
+          let k = over-first (s .kinds) kinds kinds′ (r .events) (w .kinds-after) e in
+          let o = over-first (s .operands) operands operands′ (2 * r .events) (w .operands-after) twice in
+          let n = ap (λ (x : Found). x .n) is in
+          let start = ap (λ (x : Found). x .start) is in
+          (λ i. writing (script (n i) (start i) (k .1 i) (o .1 i)) (length bytes))
+          ∙ read-writes bytes s (length bytes) (length kinds) (length operands) (all-bytes bytes b) (w .ended) (omega arith)
 
--- A script of more bytes than any may have is turned down with 10, whatever its other bytes: to look at its first 12,300 is enough.
-pub too-long : (bytes : List ℕ) (kinds operands : ℕ) → 12_299 < length bytes → reading bytes kinds operands ≡ refused 10
-unfolding notSized
-too-long bytes kinds operands h =
-    reading-10 bytes kinds operands (le-ltb (length bytes) 11 (omega (arith, h))) (over-sized (eventCount bytes) (length bytes) h)
+-- More bytes than any script may have are turned down with 10, whatever they are.
+pub too-long : (bytes : List ℕ) → 11 + 3 * eventLimit < length bytes → parsing bytes ≡ refused 10
+unfolding parsing notSized
+too-long bytes h = refuse-passes 9 _ _ (le-ltb (length bytes) 11 (omega (arith, h))) ∙ refuse-holds 10 _ _ (over-sized (eventCount bytes) (length bytes) h)
   where
-    over-sized : (e l : ℕ) → 12_299 < l → ltb 4_096 e || not (eqb l (11 + 3 * e)) ≡ true
-    over-sized e l m = go (ltb 4_096 e) refl
+    over-sized : (e l : ℕ) → 11 + 3 * eventLimit < l → ltb eventLimit e || not (eqb l (11 + 3 * e)) ≡ true
+    over-sized e l m = go (ltb eventLimit e) refl
       where
-        go : (t : Bool) → ltb 4_096 e ≡ t → ltb 4_096 e || not (eqb l (11 + 3 * e)) ≡ true
+        go : (t : Bool) → ltb eventLimit e ≡ t → ltb eventLimit e || not (eqb l (11 + 3 * e)) ≡ true
         go true q = rw q
         go false q =
-            let small = ltb-false 4_096 e q in
+            let small = ltb-false eventLimit e q in
             rw (q, ne-eqb l (11 + 3 * e) (λ z. omega (arith, z, m, small)))

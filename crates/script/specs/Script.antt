@@ -2,14 +2,12 @@
 use Prim.Native.Nat.{ℕ, _+_, _*_}
 use mathlib.Core.Bool.{Bool, not, _||_}
 use mathlib.Core.List.{List, _++_}
-use lib.ListN.{length, getD, take, drop}
+use lib.ListN.{length, take, drop}
 use lib.Dec.{ltb, eqb}
-use Rattle.base.specs.Choice.{if_then_else_}
-use Rattle.base.specs.Lists.{allBelow}
-use Rattle.base.specs.Results.{Result, refused, accepted}
+use Rattle.base.specs.Results.{Result, accepted, refuse_when_otherwise_, _andThen_}
 use Rattle.codec.specs.Bytes.{littleEndian, number}
 use Rattle.model.specs.Calls.{notOpening}
-use Rattle.model.specs.Events.{notEvent, notEvents}
+use Rattle.model.specs.Events.{eventLimit, notEvents, allEvents}
 
 -- The number of stations, the start and the events of a rehearsal: a kind for each event, and two operands.
 pub record Script : Type 0 where
@@ -36,40 +34,35 @@ decoded bytes =
     let events = eventCount bytes in
     script (number (take 1 bytes)) (number (take 8 (drop 3 bytes))) (take events (drop 11 bytes)) (drop (11 + events) bytes)
 
--- How reading or writing ends: turned down with a number, or done.
-pub data Result (A : Type 0) : Type 0 where
-  refused : (number : ℕ) → Result A
-  accepted : A → Result A
-
 -- 10: "events over 4,096, script not 11 + 3E bytes".
 unfoldable pub notSized : (events bytes : ℕ) → Bool
-notSized events bytes = ltb 4_096 events || not (eqb bytes (11 + 3 * events))
-
--- 11: "kind not 1..9, or an unused operand not 0", of any event.
-unfoldable pub allEvents : (kinds operands : List ℕ) → Bool
-allEvents kinds operands = allBelow (length kinds) (λ i. not (notEvent (getD kinds i 0) (getD operands (2 * i + 1) 0)))
+notSized events bytes = ltb eventLimit events || not (eqb bytes (11 + 3 * events))
 
 -- 12: "a lent output array shorter than E kinds, 2E operands (reading)".
 unfoldable pub noRoom : (events kinds operands : ℕ) → Bool
 noRoom events kinds operands = ltb kinds events || ltb operands (2 * events)
 
--- "Reading a script tests 9, 10, 1, 11, 12": into arrays of so many places.
+-- "Reading a script tests 9, 10, 1, 11, 12": the script that the bytes are, and this script read into arrays of so many places.
+unfoldable pub parsing : (bytes : List ℕ) → Result Script
+parsing bytes =
+    let s = decoded bytes in
+    refuse 9 when ltb (length bytes) 11 otherwise
+    refuse 10 when notSized (eventCount bytes) (length bytes) otherwise
+    refuse 1 when notOpening (s .n) (s .start) otherwise
+    refuse 11 when not (allEvents (s .kinds) (s .operands)) otherwise
+    accepted s
+
 unfoldable pub reading : (bytes : List ℕ) (kinds operands : ℕ) → Result Script
 reading bytes kinds operands =
-    let events = eventCount bytes in
-    let s = decoded bytes in
-    if ltb (length bytes) 11 then refused 9
-    else if notSized events (length bytes) then refused 10
-    else if notOpening (s .n) (s .start) then refused 1
-    else if not (allEvents (s .kinds) (s .operands)) then refused 11
-    else if noRoom events kinds operands then refused 12
-    else accepted s
+    parsing bytes andThen (λ s.
+    refuse 12 when noRoom (length (s .kinds)) kinds operands otherwise
+    accepted s)
 
 -- "writing 10, 1, 11, 12": into an array of so many bytes.
 unfoldable pub writing : Script → (bytes : ℕ) → Result (List ℕ)
 writing s bytes =
-    if notEvents (length (s .kinds)) (length (s .operands)) then refused 10
-    else if notOpening (s .n) (s .start) then refused 1
-    else if not (allEvents (s .kinds) (s .operands)) then refused 11
-    else if ltb bytes (11 + 3 * length (s .kinds)) then refused 12
-    else accepted (encoded s)
+    refuse 10 when notEvents (length (s .kinds)) (length (s .operands)) otherwise
+    refuse 1 when notOpening (s .n) (s .start) otherwise
+    refuse 11 when not (allEvents (s .kinds) (s .operands)) otherwise
+    refuse 12 when ltb bytes (11 + 3 * length (s .kinds)) otherwise
+    accepted (encoded s)

@@ -4,8 +4,10 @@ ghost use Prim.Native.Nat.{_+_, _*_, _≤_};
 ghost use lib.ListN.{length, take};
 ghost use lib.Seq.{sets};
 ghost use Rattle.base.specs.Results.{accepted};
-ghost use Rattle.script.specs.Script.{script, encoded, notSized, allEvents, noRoom, reading, writing};
-ghost use Rattle.script.specs.Contracts.{found, written, inArrays, Sizes, Reads, Writes};
+ghost use Rattle.codec.specs.Bytes.{Puts};
+ghost use Rattle.model.specs.Events.{eventLimit};
+ghost use Rattle.script.specs.Script.{script, encoded, notSized, noRoom, parsing, reading, writing};
+ghost use Rattle.script.specs.Contracts.{found, foundOf, startOf, Reads, inArrays, written, writtenOf};
 use codec::number_at;
 use codec::put_bytes;
 use codec::put_number;
@@ -24,7 +26,7 @@ pub struct Found {
 
 // What writing gives: how many bytes it wrote; or the number of the refusal, and 0.
 pub struct Written {
-    pub length: usize,
+    pub bytes: usize,
     pub answer: u32,
 }
 
@@ -43,7 +45,7 @@ fn not_written(answer: u32) -> Written
     ensures { λ r. ⌜ r ≡ written 0 answer ⌝ }
 {
     Written {
-        length: 0,
+        bytes: 0,
         answer: answer,
     }
 }
@@ -60,15 +62,15 @@ fn not_sized(events: usize, bytes: usize) -> bool
 
 // 12: whether a lent array is too short for the kinds or the operands of so many events.
 fn no_room(events: usize, kinds: usize, operands: usize) -> bool
-    requires { ⌜ events ≤ 4096 ⌝ }
+    requires { ⌜ events ≤ eventLimit ⌝ }
     ensures { λ r. ⌜ r ≡ noRoom events kinds operands ⌝ }
 {
     (kinds < events) | (operands < 2 * events)
 }
 
-// The sizes at a script's start, by the tests 9, 10 and 1.
-fn sizes(script: &[u8]) -> Found
-    ensures { λ r. ⌜ Sizes (now (script .entry)) r ⌝ }
+// What a script's bytes say, by the tests 9, 10, 1 and 11.
+fn parse(script: &[u8]) -> Found
+    ensures { λ r. ⌜ r ≡ foundOf (parsing (now (script .entry))) ⌝ }
 {
     if script.len() < 11 {
         return not_read(9);
@@ -82,6 +84,10 @@ fn sizes(script: &[u8]) -> Found
     if open_refused(n as usize, start) {
         return not_read(1);
     }
+    let pairs_at = 11 + events;
+    if !all_events(&script[11..pairs_at], &script[pairs_at..]) {
+        return not_read(11);
+    }
     Found {
         start: start,
         events: events,
@@ -90,31 +96,34 @@ fn sizes(script: &[u8]) -> Found
     }
 }
 
+// The start of a script that reads, and 0 for every other.
+pub fn start(script: &[u8]) -> u64
+    ensures { λ r. ⌜ r ≡ startOf (reading (now (script .entry)) eventLimit (2 * eventLimit)) ⌝ }
+{
+    let parsed = parse(script);
+    parsed.start
+}
+
 // Reads a script: its kinds and operands go to the start of the two lent arrays. Written back from there they are the same bytes.
 pub fn read(script: &[u8], kinds: &mut [u8], operands: &mut [u8]) -> Found
-    ensures read { λ r. ⌜ Reads (reading (now (script .entry)) (length (now (kinds .entry))) (length (now (operands .entry))))
+    ensures read { λ r. ⌜ Reads foundOf (reading (now (script .entry)) (length (now (kinds .entry))) (length (now (operands .entry))))
         (now (kinds .entry)) (now (operands .entry)) r (now (kinds .exit)) (now (operands .exit)) ⌝ }
     ensures written_back { λ r. ⌜ (r .answer ≡ 0
         → writing (inArrays r (now (kinds .exit)) (now (operands .exit))) (length (now (script .entry))) ≡ accepted (now (script .entry))) ⌝ }
 {
-    let sized = sizes(script);
-    let answer = sized.answer;
+    let parsed = parse(script);
+    let answer = parsed.answer;
     if answer != 0 {
-        return sized;
+        return parsed;
     }
-    let events = sized.events;
-    let pairs_at = 11 + events;
-    let its_kinds = &script[11..pairs_at];
-    let its_operands = &script[pairs_at..];
-    if !all_events(its_kinds, its_operands) {
-        return not_read(11);
-    }
+    let events = parsed.events;
     if no_room(events, kinds.len(), operands.len()) {
         return not_read(12);
     }
-    put_bytes(kinds, 0, its_kinds);
-    put_bytes(operands, 0, its_operands);
-    sized
+    let pairs_at = 11 + events;
+    put_bytes(kinds, 0, &script[11..pairs_at]);
+    put_bytes(operands, 0, &script[pairs_at..]);
+    parsed
 }
 
 // The bytes of a script at the start of the lent array.
@@ -131,10 +140,10 @@ fn put_script(out: &mut [u8], n: usize, start: u64, kinds: &[u8], operands: &[u8
 
 // Writes a script. The number of events is the number of kinds. Read back from what was written they are the same.
 pub fn write(n: usize, start: u64, kinds: &[u8], operands: &[u8], out: &mut [u8]) -> Written
-    ensures written { λ r. ⌜ Writes (writing (script n start (now (kinds .entry)) (now (operands .entry))) (length (now (out .entry))))
+    ensures written { λ r. ⌜ Puts writtenOf (writing (script n start (now (kinds .entry)) (now (operands .entry))) (length (now (out .entry))))
         (now (out .entry)) r (now (out .exit)) ⌝ }
     ensures read_back { λ r. ⌜ (r .answer ≡ 0
-        → reading (take (r .length) (now (out .exit))) (length (now (kinds .entry))) (length (now (operands .entry)))
+        → reading (take (r .bytes) (now (out .exit))) (length (now (kinds .entry))) (length (now (operands .entry)))
         ≡ accepted (script n start (now (kinds .entry)) (now (operands .entry)))) ⌝ }
 {
     if not_events(kinds.len(), operands.len()) {
@@ -152,7 +161,7 @@ pub fn write(n: usize, start: u64, kinds: &[u8], operands: &[u8], out: &mut [u8]
     }
     put_script(out, n, start, kinds, operands);
     Written {
-        length: length,
+        bytes: length,
         answer: 0,
     }
 }

@@ -1,24 +1,25 @@
--- `read` meets its contracts: refused with 9, 10, 1, 11 or 12, or the kinds and the operands put into the arrays; and these are written back.
+-- `read` meets its contracts: refused as parsing is or with 12, or the kinds and the operands put into the arrays; and these are written back.
 use Prim.Native.Nat.{ℕ, _≤_}
-use mathlib.Core.Path.{_≡_, ap, ap₂, _∙_}
-use mathlib.Core.Bool.{true}
+use mathlib.Core.Path.{_≡_, ap, _∙_}
+use mathlib.Core.Bool.{false}
 use mathlib.Core.List.{List}
 use lib.ListN.{length}
 use native.Mathlib.Omega.{arith}
 use borrow.Author.Needs.{needs}
-use Rattle.base.proofs.Booleans.{was-true, was-false, not-was-true, not-was-false}
+use Rattle.base.proofs.Booleans.{was-true, was-false}
 use Rattle.script.specs.declared.Found.{Found}
-use Rattle.script.specs.Script.{eventCount, decoded, allEvents, noRoom}
-use Rattle.script.proofs.ScriptLaws.{Passed, sizes-passed, kinds-length, operands-length, decoded-fits}
-use Rattle.script.proofs.ScriptLaws.{reading-11, reading-12, reads-refused, reads-sizes, reads-done}
+use Rattle.script.specs.Script.{decoded, noRoom}
+use Rattle.script.specs.Contracts.{foundOf}
+use Rattle.script.proofs.ScriptLaws.{decoded-fits, reading-refused, reading-12, reading-accepted}
+use Rattle.script.proofs.ScriptLaws.{found-refused, Found-in, parsed-in, reads-refused, reads-accepted}
 use Rattle.script.proofs.RoundTrip.{HasRead, WrittenBack, with-written-back}
 use Rattle.script.proofs.read.Statement.{statement}
 use Rattle.script.proofs.read.Tie as tie
 
-abbrev first : tie.After-sizes → tie.Start
+abbrev first : tie.After-parse → tie.Start
 first c = c .before .before .before .before
 
-abbrev known : tie.After-sizes → tie.After-shared-slice-known
+abbrev known : tie.After-parse → tie.After-shared-slice-known
 known c = c .before .before .before
 
 -- What is read is written back.
@@ -30,99 +31,79 @@ back c kinds operands r =
     let args = c .before .args in
     with-written-back (args .script .now) (args .kinds .now) (args .operands .now) kinds operands r (c .shared-slice-known .given)
 
--- Past the tests 9, 10 and 1.
-past : (c : tie.Else1) → Passed (first (c .before) .args .script .now) (c .before .sizes .result)
-past c = sizes-passed _ (c .before .sizes .result) (c .before .sizes .ensures) (c .if1 .left)
+-- Past the tests of parsing.
+past : (c : tie.Else1) → Found-in (first (c .before) .args .script .now) (c .before .parse .result)
+past c = parsed-in _ (c .before .parse .result) (c .before .parse .ensures) (c .if1 .left)
 
--- The tests 11 and 12.
-abbrev sized : tie.After-all-events → tie.Else1
-sized c = c .before .before .before
-
-listed : (c : tie.After-all-events) → let s = decoded (first (sized c .before) .args .script .now) in
-    c .all-events .result ≡ allEvents (s .kinds) (s .operands)
-listed c = c .all-events .ensures ∙ ap₂ allEvents (past (sized c) .kinds) (past (sized c) .operands)
-
-roomy : (c : tie.After-no-room) → let args = first (sized (c .before .before) .before) .args in
-    c .no-room .result ≡ noRoom (eventCount (args .script .now)) (length (args .kinds .now)) (length (args .operands .now))
+-- The test for 12.
+roomy : (c : tie.After-no-room) → let args = first (c .before .before) .args in
+    c .no-room .result ≡ noRoom (length (decoded (args .script .now) .kinds)) (length (args .kinds .now)) (length (args .operands .now))
+unfolding foundOf
 roomy c =
-    let at = sized (c .before .before) in
-    let args = first (at .before) .args in
-    c .no-room .ensures ∙ ap (λ events. noRoom events (length (args .kinds .now)) (length (args .operands .now))) (past at .count)
+    let args = first (c .before .before) .args in
+    c .no-room .ensures
+    ∙ ap (λ (events : ℕ). noRoom events (length (args .kinds .now)) (length (args .operands .now))) (ap (λ (x : Found). x .events) (past (c .before) .is-found))
 
-fits : (c : tie.Else3) → let args = first (sized (c .before .before .before) .before) .args in
+enough : (c : tie.Else2) → let args = first (c .before .before .before) .args in
+    noRoom (length (decoded (args .script .now) .kinds)) (length (args .kinds .now)) (length (args .operands .now)) ≡ false
+enough c = was-false _ _ (roomy (c .before)) (c .if2 .left)
+
+fits : (c : tie.Else2) → let args = first (c .before .before .before) .args in
     let s = decoded (args .script .now) in
     (length (s .kinds) ≤ length (args .kinds .now)) × (length (s .operands) ≤ length (args .operands .now))
-fits c = decoded-fits _ (past (sized (c .before .before .before)) .sized) _ _ (was-false _ _ (roomy (c .before)) (c .if3 .left))
+fits c = decoded-fits _ (past (c .before .before) .tested .counted) _ _ (enough c)
 
-sizes-requires : tie.Need-sizes-requires
-sizes-requires c κs = search needs
+parse-requires : tie.Need-parse-requires
+parse-requires c κs = search needs
 
 returns : tie.Need-returns
 returns c =
     let args = first (c .before) .args in
-    back (known (c .before)) _ _ _ (reads-sizes _ (args .kinds .now) (args .operands .now) _ (c .before .sizes .ensures) (c .if1 .taken))
+    let turned = found-refused _ (c .before .parse .result) (c .before .parse .ensures) (c .if1 .taken) in
+    back (known (c .before)) _ _ _ (reads-refused foundOf _ (args .kinds .now) (args .operands .now) _ _ (reading-refused _ _ _ _ turned) (c .before .parse .ensures ∙ ap foundOf turned))
 
-add-pairs-at : tie.Need-add-pairs-at
-add-pairs-at c = record { fits = omega (arith, past c) }
-
-sub-its-kinds : tie.Need-sub-its-kinds
-sub-its-kinds c = search needs
-
-part-its-kinds-start : tie.Need-part-its-kinds-start
-part-its-kinds-start c = search needs
-
-part-its-kinds-end : tie.Need-part-its-kinds-end
-part-its-kinds-end c = omega (arith, past c)
-
-sub-its-operands : tie.Need-sub-its-operands
-sub-its-operands c = omega (arith, past (c .before))
-
-part-its-operands-start : tie.Need-part-its-operands-start
-part-its-operands-start c = omega (arith, past (c .before))
-
-part-its-operands-end : tie.Need-part-its-operands-end
-part-its-operands-end c = search needs
-
-all-events-requires : tie.Need-all-events-requires
-all-events-requires c κs =
-    let at = past (c .before .before) in
-    omega (arith, ap length (at .kinds), ap length (at .operands), kinds-length _ (at .sized), operands-length _ (at .sized))
+no-room-requires : tie.Need-no-room-requires
+no-room-requires c κs = past c .few
 
 not-read-requires : tie.Need-not-read-requires
 not-read-requires c κs = search needs
 
 returns-2 : tie.Need-returns-2
+unfolding foundOf
 returns-2 c =
-    let at = sized (c .before .before) in
+    let at = c .before .before .before in
     let args = first (at .before) .args in
-    let wrong = not-was-false _ _ (listed (c .before .before)) (c .before .if2 .taken) in
-    back (known (at .before)) _ _ _ (reads-refused _ (args .kinds .now) (args .operands .now) _ 11 (reading-11 _ _ _ (past at .sized) wrong) (c .not-read .ensures))
+    let short = was-true _ _ (roomy (c .before .before)) (c .before .if2 .taken) in
+    back (known (at .before)) _ _ _ (reads-refused foundOf _ (args .kinds .now) (args .operands .now) _ 12 (reading-12 _ _ _ (past at .tested) short) (c .not-read .ensures))
 
-no-room-requires : tie.Need-no-room-requires
-no-room-requires c κs = past (sized (c .before)) .few
+add-pairs-at : tie.Need-add-pairs-at
+add-pairs-at c = record { fits = omega (arith, past (c .before .before) .few) }
 
-not-read-requires-2 : tie.Need-not-read-requires-2
-not-read-requires-2 c κs = search needs
+sub-put-bytes : tie.Need-sub-put-bytes
+sub-put-bytes c = search needs
 
--- 11 does not turn the bytes down.
-right : (c : tie.Else2) → let s = decoded (first (sized (c .before) .before) .args .script .now) in allEvents (s .kinds) (s .operands) ≡ true
-right c = not-was-true _ _ (listed (c .before)) (c .if2 .left)
+part-put-bytes-start : tie.Need-part-put-bytes-start
+part-put-bytes-start c = search needs
 
-returns-3 : tie.Need-returns-3
-returns-3 c =
-    let after = c .before .before .before in
-    let at = sized (after .before) in
-    let args = first (at .before) .args in
-    let short = was-true _ _ (roomy (c .before .before)) (c .before .if3 .taken) in
-    back (known (at .before)) _ _ _ (reads-refused _ (args .kinds .now) (args .operands .now) _ 12 (reading-12 _ _ _ (past at .sized) (right after) short) (c .not-read2 .ensures))
+part-put-bytes-end : tie.Need-part-put-bytes-end
+part-put-bytes-end c = omega (arith, past (c .before .before .before) .long)
 
 put-bytes-requires : tie.Need-put-bytes-requires
-put-bytes-requires c κs = omega (arith, ap length (past (sized (c .before .before .before .before)) .kinds), fits (c .before))
+put-bytes-requires c κs = omega (arith, ap length (past (c .before .before .before .before) .kinds), fits (c .before .before) .0)
+
+sub-put-bytes-2 : tie.Need-sub-put-bytes-2
+sub-put-bytes-2 c = omega (arith, past (c .before .before .before .before .before .before .before .before) .long)
+
+part-put-bytes-start-2 : tie.Need-part-put-bytes-start-2
+part-put-bytes-start-2 c = omega (arith, past (c .before .before .before .before .before .before .before .before) .long)
+
+part-put-bytes-end-2 : tie.Need-part-put-bytes-end-2
+part-put-bytes-end-2 c = search needs
 
 put-bytes-requires-2 : tie.Need-put-bytes-requires-2
 put-bytes-requires-2 c κs =
-    let after = c .before .before .before .before .before in
-    omega (arith, ap length (past (sized (after .before .before .before)) .operands), fits after)
+    let room = c .before .before .before .before .before .before .before in
+    omega (arith, ap length (past (room .before .before) .operands), fits room .1)
 
 same-length : tie.Need-same-length
 same-length c = search needs
@@ -130,13 +111,15 @@ same-length c = search needs
 same-length-2 : tie.Need-same-length-2
 same-length-2 c = search needs
 
-returns-4 : tie.Need-returns-4
-returns-4 c =
-    let put = c .before .before .before .before .before .before in
-    let after = put .before .before in
-    let at = sized (after .before .before .before) in
-    back (known (at .before)) _ _ _ (reads-done _ (first (at .before) .args .kinds .now) (first (at .before) .args .operands .now) _ _ _ (past at) (right (after .before .before))
-    (was-false _ _ (roomy (after .before)) (after .if3 .left))
+returns-3 : tie.Need-returns-3
+returns-3 c =
+    let put = c .before .before .before .before .before .before .before in
+    let room = put .before .before .before in
+    let at = room .before .before in
+    let args = first (at .before) .args in
+    back (known (at .before)) _ _ _ (reads-accepted foundOf _ (args .kinds .now) (args .operands .now) _ _ _ _ (reading-accepted _ _ _ (past at .tested) (enough room)) (past at .is-found)
+    (fits room .0)
+    (fits room .1)
     (put .put-bytes .ensures ∙ rw (past at .kinds))
     (c .before .before .put-bytes2 .ensures ∙ rw (past at .operands)))
 
@@ -144,23 +127,20 @@ pub read-spec : {M : Type 1} → statement M
 read-spec =
     tie.close
     (tie.spec
-    sizes-requires
+    parse-requires
     returns
-    add-pairs-at
-    sub-its-kinds
-    part-its-kinds-start
-    part-its-kinds-end
-    sub-its-operands
-    part-its-operands-start
-    part-its-operands-end
-    all-events-requires
+    no-room-requires
     not-read-requires
     returns-2
-    no-room-requires
-    not-read-requires-2
-    returns-3
+    add-pairs-at
+    sub-put-bytes
+    part-put-bytes-start
+    part-put-bytes-end
     put-bytes-requires
+    sub-put-bytes-2
+    part-put-bytes-start-2
+    part-put-bytes-end-2
     put-bytes-requires-2
     same-length
     same-length-2
-    returns-4)
+    returns-3)

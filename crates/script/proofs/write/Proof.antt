@@ -1,19 +1,22 @@
 -- `write` meets its contracts: refused with 10, 1, 11 or 12, or the script's bytes put into the array; and these read back.
 use Prim.Native.Nat.{ℕ}
-use mathlib.Core.Path.{_≡_, refl}
-use mathlib.Core.Bool.{true, false}
+use mathlib.Core.Path.{_≡_, ap, _∙_}
+use mathlib.Core.Bool.{true, false, not}
 use mathlib.Core.List.{List}
 use lib.ListN.{length}
 use native.Mathlib.Omega.{arith}
 use borrow.Author.Needs.{needs}
 use borrow.Author.Tests.{lt-ltb, le-ltb}
 use Rattle.base.proofs.Booleans.{was-true, was-false, not-was-true, not-was-false}
+use Rattle.base.proofs.Results.{refuse-holds, refuse-passes}
+use Rattle.codec.proofs.ByteLaws.{puts-refused, puts-accepted}
 use Rattle.model.specs.Calls.{notOpening}
-use Rattle.model.specs.Events.{notEvents}
+use Rattle.model.specs.Events.{notEvents, allEvents}
 use Rattle.model.proofs.EventLaws.{events-tell}
 use Rattle.script.specs.declared.Written.{Written}
-use Rattle.script.specs.Script.{Script, script, allEvents}
-use Rattle.script.proofs.ScriptLaws.{writing-10, writing-1, writing-11, writing-12, writes-refused, writes-done}
+use Rattle.script.specs.Script.{Script, script, encoded, writing}
+use Rattle.script.specs.Contracts.{writtenOf}
+use Rattle.script.proofs.ScriptLaws.{Listed, writing-accepted, events-length}
 use Rattle.script.proofs.RoundTrip.{HasWritten, ReadBack, with-read-back}
 use Rattle.script.proofs.write.Statement.{statement}
 use Rattle.script.proofs.write.Tie as tie
@@ -46,10 +49,11 @@ not-written-requires : tie.Need-not-written-requires
 not-written-requires c κs = search needs
 
 returns : tie.Need-returns
+unfolding writing writtenOf
 returns c =
     let at = first (c .before .before) in
-    back at _ _ (writes-refused (its at) (at .args .out .now) _ 10
-    (writing-10 _ _ (was-true _ _ (c .before .before .not-events .ensures) (c .before .if1 .taken)))
+    back at _ _ (puts-refused writtenOf _ (at .args .out .now) _ 10
+    (refuse-holds 10 _ _ (was-true _ _ (c .before .before .not-events .ensures) (c .before .if1 .taken)))
     (c .not-written .ensures))
 
 open-refused-requires : tie.Need-open-refused-requires
@@ -59,11 +63,12 @@ not-written-requires-2 : tie.Need-not-written-requires-2
 not-written-requires-2 c κs = search needs
 
 returns-2 : tie.Need-returns-2
+unfolding writing writtenOf
 returns-2 c =
     let past = c .before .before .before in
     let at = first (past .before) in
-    back at _ _ (writes-refused (its at) (at .args .out .now) _ 1
-    (writing-1 _ _ (counted past) (was-true _ _ (c .before .before .open-refused .ensures) (c .before .if2 .taken)))
+    back at _ _ (puts-refused writtenOf _ (at .args .out .now) _ 1
+    (refuse-passes 10 _ _ (counted past) ∙ refuse-holds 1 _ _ (was-true _ _ (c .before .before .open-refused .ensures) (c .before .if2 .taken)))
     (c .not-written2 .ensures))
 
 all-events-requires : tie.Need-all-events-requires
@@ -73,11 +78,13 @@ not-written-requires-3 : tie.Need-not-written-requires-3
 not-written-requires-3 c κs = search needs
 
 returns-3 : tie.Need-returns-3
+unfolding writing writtenOf
 returns-3 c =
     let past = c .before .before .before in
     let at = first (past .before .before .before) in
-    back at _ _ (writes-refused (its at) (at .args .out .now) _ 11
-    (writing-11 _ _ (counted (past .before .before)) (opens past) (not-was-false _ _ (c .before .before .all-events .ensures) (c .before .if3 .taken)))
+    back at _ _ (puts-refused writtenOf _ (at .args .out .now) _ 11
+    (refuse-passes 10 _ _ (counted (past .before .before)) ∙ refuse-passes 1 _ _ (opens past)
+    ∙ refuse-holds 11 _ _ (ap not (not-was-false _ _ (c .before .before .all-events .ensures) (c .before .if3 .taken))))
     (c .not-written3 .ensures))
 
 mul-length : tie.Need-mul-length
@@ -90,11 +97,13 @@ not-written-requires-4 : tie.Need-not-written-requires-4
 not-written-requires-4 c κs = search needs
 
 returns-4 : tie.Need-returns-4
+unfolding writing writtenOf
 returns-4 c =
     let past = c .before .before in
     let at = first (past .before .before .before .before .before) in
-    back at _ _ (writes-refused (its at) (at .args .out .now) _ 12
-    (writing-12 _ _ (counted (past .before .before .before .before)) (opens (past .before .before)) (right past) (lt-ltb _ _ (c .before .if4 .taken)))
+    back at _ _ (puts-refused writtenOf _ (at .args .out .now) _ 12
+    (refuse-passes 10 _ _ (counted (past .before .before .before .before)) ∙ refuse-passes 1 _ _ (opens (past .before .before)) ∙ refuse-passes 11 _ _ (ap not (right past))
+    ∙ refuse-holds 12 _ _ (lt-ltb _ _ (c .before .if4 .taken)))
     (c .not-written4 .ensures))
 
 put-script-requires : tie.Need-put-script-requires
@@ -104,13 +113,20 @@ same-length : tie.Need-same-length
 same-length c = search needs
 
 returns-5 : tie.Need-returns-5
+unfolding writtenOf
 returns-5 c =
     let last = c .before .before .before .before in
     let past = last .before in
     let at = first (past .before .before .before .before .before) in
-    back at _ _ (writes-done (its at) (at .args .out .now) _ _ (counted (past .before .before .before .before)) (opens (past .before .before)) (right past)
-    (le-ltb _ _ (last .if4 .left))
-    refl
+    let listed : Listed (its at) (length (at .args .out .now)) = record {
+      counted = counted (past .before .before .before .before);
+      opens = opens (past .before .before);
+      all = right past;
+      fits = le-ltb _ _ (last .if4 .left);
+    } in
+    let long = events-length (its at) (listed .counted) in
+    back at _ _ (puts-accepted writtenOf _ (at .args .out .now) _ (encoded (its at)) _ (writing-accepted (its at) _ listed) (rw long)
+    (omega (arith, long, last .if4 .left))
     (c .before .before .put-script .ensures))
 
 pub write-spec : {M : Type 1} → statement M
