@@ -7,11 +7,11 @@ use lib.ListN.{length, drop, length-append}
 use native.Mathlib.Omega.{arith}
 use borrow.Author.Tests.{lt-ltb, ltb-false, le-ltb, not-false}
 use Rattle.base.proofs.Booleans.{neither}
-use Rattle.base.specs.Results.{Result, refused, accepted, refuse_when_otherwise_}
+use Rattle.base.specs.Results.{Result, refused, accepted, refuse_when_otherwise_, isRefusal}
 use Rattle.codec.specs.Bytes.{over}
 use Rattle.model.specs.Memory.{Network, memoryInRange}
 use Rattle.model.specs.Calls.{Call, Open, Up, Down, Solicit, GiveUp, Expire, Deliver, Lose, Duplicate}
-use Rattle.model.specs.Calls.{Effect, turnsDown, step, traced, trace}
+use Rattle.model.specs.Calls.{Effect, step, traced, trace}
 use Rattle.model.proofs.Range.{Invariant, in-range-invariant}
 use Rattle.model.proofs.Answers.{refused-tells, accepted-tells}
 use Rattle.network.specs.declared.Memory.{Memory}
@@ -25,7 +25,7 @@ use Rattle.layout.proofs.NetworkLaws.{network-wide}
 use Rattle.layout.proofs.ReadBack.{network-back, meaning-back}
 use Rattle.steps.specs.declared.Done.{Done}
 use Rattle.steps.specs.Called.{Called}
-use Rattle.console.specs.Results.{packed, answerOf, countOf}
+use Rattle.console.specs.Packed.{packed, answerOf, countOf}
 use Rattle.console.specs.Console.{tooShort, notMemory, unreadable, calling, Stores, Ends, tracing}
 use Rattle.console.specs.Contracts.{Finished}
 
@@ -95,7 +95,7 @@ module _ (net : Network) (fits : NetworkFits net) (ranged : memoryInRange net �
   pub written-stores : Stores bytes′ net
   unfolding notMemory tooShort
   written-stores = record {
-    readable = rw (le-ltb (length bytes′) layoutLength (omega (arith, ap length split, length-append (networkBytes net) rest, network-wide net fits)), meaning-back net fits bytes′ rest split (inv .formed .high) (kept .room));
+    readable = rw (le-ltb (length bytes′) layoutLength (omega (arith, ap length split, length-append (networkBytes net) rest, network-wide net fits)), meaning-back net fits bytes′ rest split (inv .formed .high) (inv .room));
     network = network-back net fits bytes′ rest split;
     in-range = ranged;
   }
@@ -115,12 +115,12 @@ module _ (c : Call) (bytes : List ℕ) (d : Done) (r : ℕ) (bytes′ : List ℕ
       go (refused number) e k =
           let answer : d .answer ≡ number = ap (λ (x : Done). x .answer) k in
           let sent : d .sent ≡ 0 = ap (λ (x : Done). x .sent) k in
-          (f .result ∙ rw (answer, sent), f .kept (rw answer (refused-tells c (view memory) number e)))
+          (f .result ∙ rw (answer, sent), f .unchanged (rw answer (refused-tells c (view memory) number e)))
       go (accepted x) e k =
           let net : view (d .memory) ≡ x .net = ap (λ (y : Effect). y .net) (k .0) in
           let answer : d .answer ≡ x .answer = ap (λ (y : Effect). y .answer) (k .0) in
           let sent : d .sent ≡ x .sent = ap (λ (y : Effect). y .sent) (k .0) in
-          let told : turnsDown (d .answer) ≡ false = rw answer (accepted-tells c (view memory) x e) in
+          let told : isRefusal (d .answer) ≡ false = rw answer (accepted-tells c (view memory) x e) in
           let put = f .written told in
           (f .result ∙ rw (answer, sent), put .0 ∙ rw net, subst (λ z. Stores bytes′ z) net (written-stores (view (d .memory)) (put .1) (k .1) bytes bytes′ long (put .0)))
 

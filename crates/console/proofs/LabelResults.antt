@@ -10,7 +10,7 @@ use Rattle.label.specs.declared.Label.{Label}
 use Rattle.label.specs.Label.{inRange, took, gave, newLabel, newLabelCall}
 use Rattle.label.proofs.Range.{InRange, is-unassigned, is-assigned, range-cases}
 use Rattle.label.proofs.New.{new-label-maintains, new-number}
-use Rattle.console.specs.Results.{packed, outcomeIn}
+use Rattle.console.specs.Packed.{packed, outcomeIn}
 use Rattle.console.proofs.ConsoleLaws.{unpacked}
 
 -- The label that the call takes has the advertised sequence number and a denominator.

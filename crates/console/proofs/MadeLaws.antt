@@ -2,16 +2,17 @@
 use Prim.Native.Nat.{ℕ}
 use mathlib.Core.Path.{_≡_, refl, sym, ap, subst, _∙_}
 use mathlib.Core.Bool.{Bool, true, false}
-use mathlib.Core.List.{List, [], _∷_}
+use mathlib.Core.List.{List}
 use native.Mathlib.Omega.{arith}
 use Rattle.base.specs.Results.{Result, refused, accepted}
 use Rattle.model.specs.Memory.{Network, fresh}
-use Rattle.model.specs.Calls.{Call, Open, after, notOpening, step, run}
+use Rattle.model.specs.Calls.{Call, Open, Effect, after, notOpening, step}
 use Rattle.model.specs.Walks.{Reached}
-use Rattle.model.proofs.Refusals.{open-1, open-accepted, fresh-reached}
+use Rattle.model.proofs.Refusals.{open-1, open-accepted}
+use Rattle.model.proofs.HistoryLaws.{madeNetwork, made-holds, made-reached}
 use Rattle.layout.specs.Stored.{storedNetwork}
-use Rattle.console.specs.Console.{tooShort, unreadable, calling, Stores, Ends}
-use Rattle.console.specs.Made.{History, Made}
+use Rattle.console.specs.Console.{tooShort, notMemory, unreadable, calling, Stores, Ends}
+use Rattle.console.specs.Made.{CallEnds, MadeByCalls}
 use Rattle.console.proofs.ConsoleLaws.{memory-readable, calling-1, calling-step}
 
 -- After a call, turned down or not, the bytes hold the network that the model's call leaves.
@@ -20,38 +21,36 @@ unfolding Ends after
 ends-stores bytes net s (refused number) r next e = subst (λ b. Stores b net) (sym (e .1)) s
 ends-stores bytes net s (accepted x) r next e = e .2
 
-history-stores : (calls : List Call) (bytes left : List ℕ) (net : Network) → Stores bytes net → History calls bytes left → Stores left (run calls net)
-unfolding run
-history-stores [] bytes left net s h = subst (λ b. Stores b net) (sym h) s
-history-stores (c ∷ calls) bytes left net s (r, next, e, h) =
+stepped : (c : Call) (bytes : List ℕ) (r : ℕ) (left : List ℕ) (net : Network) → Stores bytes net → CallEnds c bytes r left → Stores left (after net (step c net))
+stepped c bytes r left net s e =
     let same : calling c bytes ≡ step c net = calling-step c bytes (memory-readable bytes (s .readable) c) ∙ ap (step c) (s .network) in
-    history-stores calls next left (after net (step c net))
-    (subst (λ z. Stores next (after net z)) same (ends-stores bytes net s (calling c bytes) r next e)) h
+    subst (λ z. Stores left (after net z)) same (ends-stores bytes net s (calling c bytes) r left e)
 
-module _ (bytes : List ℕ) (m : Made bytes) where
-  -- The opening was accepted.
-  opened : (notOpening (m .n) (m .start) ≡ false) × Stores (m .opened) (fresh (m .n) (m .start))
-  unfolding Ends unreadable
-  opened = go (tooShort (m .before)) refl (notOpening (m .n) (m .start)) refl
-    where
-      c : Call
-      c = Open (m .n) (m .start)
+-- An Open that answers 0 was accepted, and leaves the bytes of fresh memory.
+opened : (n start : ℕ) (bytes left : List ℕ) → CallEnds (Open n start) bytes 0 left → (notOpening n start ≡ false) × Stores left (fresh n start)
+unfolding Ends unreadable
+opened n start bytes left h = go (tooShort bytes) refl (notOpening n start) refl
+  where
+    c : Call
+    c = Open n start
 
-      one : {A : Type 0} → calling c (m .before) ≡ refused 1 → A
-      one e =
-          let r = subst (λ z. Ends (m .before) z (m .result) (m .opened)) e (m .opens) .0 in
-          absurd (omega (arith, r, m .done))
+    one : {A : Type 0} → calling c bytes ≡ refused 1 → A
+    one e = let r = subst (λ z. Ends bytes z 0 left) e h .0 in absurd (omega (arith, r))
 
-      go : (t : Bool) → tooShort (m .before) ≡ t → (u : Bool) → notOpening (m .n) (m .start) ≡ u
-          → (notOpening (m .n) (m .start) ≡ false) × Stores (m .opened) (fresh (m .n) (m .start))
-      go true e u k = one (calling-1 c (m .before) e)
-      go false e true k = one (calling-step c (m .before) e ∙ open-1 (m .n) (m .start) (storedNetwork (m .before)) k)
-      go false e false k =
-          let z = calling-step c (m .before) e ∙ open-accepted (m .n) (m .start) (storedNetwork (m .before)) k in
-          (k, subst (λ x. Ends (m .before) x (m .result) (m .opened)) z (m .opens) .2)
+    go : (t : Bool) → tooShort bytes ≡ t → (u : Bool) → notOpening n start ≡ u → (notOpening n start ≡ false) × Stores left (fresh n start)
+    go true e u k = one (calling-1 c bytes e)
+    go false e true k = one (calling-step c bytes e ∙ open-1 n start (storedNetwork bytes) k)
+    go false e false k =
+        let z = calling-step c bytes e ∙ open-accepted n start (storedNetwork bytes) k in
+        (k, subst (λ x. Ends bytes x 0 left) z h .2)
 
-  pub made-stores : Stores bytes (run (m .calls) (fresh (m .n) (m .start)))
-  made-stores = history-stores (m .calls) (m .opened) bytes (fresh (m .n) (m .start)) (opened .1) (m .history)
+module _ (bytes : List ℕ) (m : MadeByCalls bytes) where
+  made-stores : Stores bytes (madeNetwork CallEnds Stores opened stepped bytes m)
+  made-stores = made-holds CallEnds Stores opened stepped bytes m
 
-  pub made-reached : Reached (storedNetwork bytes)
-  made-reached = fresh-reached (m .n) (m .start) (opened .0) (m .calls) (storedNetwork bytes) (made-stores .network)
+  -- So they are memory, and hold a network that a list of calls reaches.
+  pub made-readable : notMemory bytes ≡ false
+  made-readable = made-stores .readable
+
+  pub made-reaches : Reached (storedNetwork bytes)
+  made-reaches = subst Reached (sym (made-stores .network)) (made-reached CallEnds Stores opened stepped bytes m)

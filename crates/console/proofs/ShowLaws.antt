@@ -9,16 +9,17 @@ use lib.Dec.{leb}
 use borrow.Author.Tests.{lt-ltb, le-ltb, leb-true}
 use Rattle.base.specs.Lists.{allBelow}
 use Rattle.base.proofs.Booleans.{both, neither}
-use Rattle.base.specs.Results.{Result, refused, accepted}
-use Rattle.codec.specs.Bytes.{byteAt}
-use Rattle.codec.proofs.ByteLaws.{sets-over}
+use Rattle.base.specs.Results.{Result, refused, accepted, _andThen_}
+use Rattle.base.proofs.Results.{refuse-holds, refuse-passes}
+use Rattle.codec.specs.Bytes.{byteAt, Puts}
+use Rattle.codec.proofs.ByteLaws.{puts-refused, puts-accepted}
 use Rattle.model.specs.Memory.{Network, airLimit, memoryInRange}
 use Rattle.layout.specs.Places.{layoutLength, airAt}
 use Rattle.layout.specs.Stored.{storedNetwork}
 use Rattle.layout.specs.Meaning.{stationHasMeaning, hasMeaning}
-use Rattle.console.specs.Results.{packed, telling, Puts}
+use Rattle.console.specs.Packed.{packed, telling}
 use Rattle.console.specs.Console.{notMemory}
-use Rattle.console.specs.Showing.{outOfRange, showing, fitted}
+use Rattle.console.specs.Showing.{outOfRange, showing, shownIn}
 use Rattle.console.proofs.ConsoleLaws.{memory-long, memory-meant}
 
 -- Bytes in range: they are long enough, and n and the number of packets are within the layout's places.
@@ -41,11 +42,11 @@ known bytes h =
 module _ {A : Type 0} (bytes : List ℕ) (show : Network → Result A) where
   pub showing-1 : outOfRange bytes ≡ true → showing bytes show ≡ refused 1
   unfolding showing
-  showing-1 h = rw h
+  showing-1 h = refuse-holds 1 _ _ h
 
   pub showing-net : outOfRange bytes ≡ false → showing bytes show ≡ show (storedNetwork bytes)
   unfolding showing
-  showing-net h = rw h
+  showing-net h = refuse-passes 1 _ _ h
 
 -- A number told.
 module _ (bytes : List ℕ) (show : Network → Result ℕ) where
@@ -63,21 +64,24 @@ module _ (bytes : List ℕ) (show : Network → Result ℕ) where
 
 -- Bytes put into a lent array.
 module _ (bytes : List ℕ) (show : Network → Result (List ℕ)) (out : List ℕ) where
-  pub puts-1 : outOfRange bytes ≡ true → Puts (fitted (length out) (showing bytes show)) out 1 out
-  unfolding Puts fitted
-  puts-1 h = rw (showing-1 bytes show h) (refl, refl)
+  abbrev shown-in : Result (List ℕ)
+  shown-in = showing bytes show andThen shownIn (length out)
 
-  pub puts-refused : (number : ℕ) → outOfRange bytes ≡ false → show (storedNetwork bytes) ≡ refused number
-      → Puts (fitted (length out) (showing bytes show)) out (packed number 0) out
-  unfolding Puts fitted
-  puts-refused number h e = rw (showing-net bytes show h, e) (refl, refl)
+  pub puts-1 : outOfRange bytes ≡ true → Puts telling shown-in out 1 out
+  unfolding telling _andThen_
+  puts-1 h = puts-refused telling _ out 1 1 (rw (showing-1 bytes show h)) refl
+
+  pub puts-other : (number : ℕ) → outOfRange bytes ≡ false → show (storedNetwork bytes) ≡ refused number → Puts telling shown-in out (packed number 0) out
+  unfolding telling _andThen_
+  puts-other number h e = puts-refused telling _ out (packed number 0) number (rw (showing-net bytes show h, e)) refl
 
   module _ (shown : List ℕ) (h : outOfRange bytes ≡ false) (e : show (storedNetwork bytes) ≡ accepted shown) where
-    pub puts-12 : length out < length shown → Puts (fitted (length out) (showing bytes show)) out 12 out
-    unfolding Puts fitted
-    puts-12 l = rw (showing-net bytes show h, e, lt-ltb (length out) (length shown) l) (refl, refl)
+    pub puts-12 : length out < length shown → Puts telling shown-in out 12 out
+    unfolding telling _andThen_ shownIn
+    puts-12 l = puts-refused telling _ out 12 12 (rw (showing-net bytes show h, e) (refuse-holds 12 _ _ (lt-ltb (length out) (length shown) l))) refl
 
     pub puts-shown : (r : ℕ) (out′ : List ℕ) → length shown ≤ length out → r ≡ packed 0 (length shown) → out′ ≡ sets out 0 shown
-        → Puts (fitted (length out) (showing bytes show)) out r out′
-    unfolding Puts fitted
-    puts-shown r out′ l q p = rw (showing-net bytes show h, e, le-ltb (length out) (length shown) l) (q, p ∙ sets-over out shown l)
+        → Puts telling shown-in out r out′
+    unfolding telling _andThen_ shownIn
+    puts-shown r out′ l q p =
+        puts-accepted telling _ out r shown out′ (rw (showing-net bytes show h, e) (refuse-passes 12 _ _ (le-ltb (length out) (length shown) l))) q l p

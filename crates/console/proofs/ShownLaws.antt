@@ -8,7 +8,8 @@ use lib.Dec.{leb, eqb}
 use native.Mathlib.Omega.{arith}
 use borrow.Author.Tests.{leb-false}
 use Rattle.base.proofs.Booleans.{neither}
-use Rattle.base.specs.Results.{refused, accepted}
+use Rattle.base.specs.Results.{refused, accepted, refuse_when_otherwise_}
+use Rattle.base.proofs.Results.{refuse-holds}
 use Rattle.codec.specs.Bytes.{byteAt, numberAt}
 use Rattle.codec.proofs.ByteLaws.{little-length}
 use Rattle.model.specs.Memory.{place, pairPlace, linkIn}
@@ -74,38 +75,38 @@ module _ (bytes : List ℕ) (a b : ℕ) where
 
   pub show-link-2 : noPair bytes a b ≡ true → showLink a b (storedNetwork bytes) ≡ refused 2
   unfolding showLink
-  show-link-2 h = rw (not-pair true h)
+  show-link-2 h = refuse-holds 2 _ _ (not-pair true h)
 
   pub show-label-2 : noStations bytes a b ≡ true → showLabel a b (storedNetwork bytes) ≡ refused 2
   unfolding showLabel
-  show-label-2 h = rw (not-both true h)
+  show-label-2 h = refuse-holds 2 _ _ (not-both true h)
 
   pub show-row-2 : noStations bytes a b ≡ true → showRow a b (storedNetwork bytes) ≡ refused 2
   unfolding showRow
-  show-row-2 h = rw (not-both true h)
+  show-row-2 h = refuse-holds 2 _ _ (not-both true h)
 
   pub show-record-2 : noPair bytes a b ≡ true → showRecord a b (storedNetwork bytes) ≡ refused 2
   unfolding showRecord
-  show-record-2 h = rw (not-pair true h)
+  show-record-2 h = refuse-holds 2 _ _ (not-pair true h)
 
   module _ (k : Known bytes) (h : noStations bytes a b ≡ false) where
     pub show-label : showLabel a b (storedNetwork bytes) ≡ accepted (labelBytes (storedLabel bytes (labelsAt + 16 * place a b)))
-    unfolding showLabel
+    unfolding showLabel refuse_when_otherwise_
     show-label = rw (not-both false h, label-stored bytes (place a b) (omega (arith, both-below bytes k a b h)))
 
     pub show-row : showRow a b (storedNetwork bytes) ≡ accepted (rowBytes (rowOf (storedRow bytes (rowsAt + 69 * place a b))))
-    unfolding showRow
+    unfolding showRow refuse_when_otherwise_
     show-row = rw (not-both false h, row-stored bytes (place a b) (omega (arith, both-below bytes k a b h)))
 
   module _ (k : Known bytes) (h : noPair bytes a b ≡ false) where
     pub show-link : showLink a b (storedNetwork bytes) ≡ accepted (flag (storedFlag bytes (linksAt + pairPlace a b)))
-    unfolding showLink linkIn
+    unfolding showLink linkIn refuse_when_otherwise_
     show-link =
         let other = neither (noStations bytes a b) (eqb a b) h .1 in
         rw (not-pair false h, other, link-stored bytes (pairPlace a b) (omega (arith, pair-below bytes k a b h)))
 
     pub show-record : showRecord a b (storedNetwork bytes) ≡ accepted (recordBytes (recordOf (storedRecord bytes (recordsAt + 23 * place a b))))
-    unfolding showRecord
+    unfolding showRecord refuse_when_otherwise_
     show-record = rw (not-pair false h, record-stored bytes (place a b) (omega (arith, pair-below bytes k a b h)))
 
 module _ (bytes : List ℕ) (a : ℕ) where
@@ -115,11 +116,11 @@ module _ (bytes : List ℕ) (a : ℕ) where
 
   pub show-station-2 : noStation bytes a ≡ true → showStation a (storedNetwork bytes) ≡ refused 2
   unfolding showStation
-  show-station-2 h = rw (not-station true h)
+  show-station-2 h = refuse-holds 2 _ _ (not-station true h)
 
   pub show-station : Known bytes → noStation bytes a ≡ false
       → showStation a (storedNetwork bytes) ≡ accepted (stationBytes (numberAt 4 bytes (numbersAt + 4 * a)) (byteAt bytes (soughtAt + a)) (storedFlag bytes (activeAt + a)))
-  unfolding showStation
+  unfolding showStation refuse_when_otherwise_
   show-station k h =
       let m = station-below bytes k a h in
       rw (not-station false h, number-stored bytes a m, sought-stored bytes a m, active-stored bytes a m)
@@ -130,11 +131,11 @@ module _ (bytes : List ℕ) (a : ℕ) where
 
   pub show-packet-6 : leb (byteAt bytes airAt) a ≡ true → showPacket a (storedNetwork bytes) ≡ refused 6
   unfolding showPacket
-  show-packet-6 h = rw (not-packet true h)
+  show-packet-6 h = refuse-holds 6 _ _ (not-packet true h)
 
   pub show-packet : Known bytes → leb (byteAt bytes airAt) a ≡ false
       → showPacket a (storedNetwork bytes) ≡ accepted (packetBytes (packetOf (storedPacket bytes (packetsAt + 28 * a))))
-  unfolding showPacket
+  unfolding showPacket refuse_when_otherwise_
   show-packet k h =
       let m : a < byteAt bytes airAt = leb-false (byteAt bytes airAt) a h in
       rw (not-packet false h, packet-stored bytes a m (omega (arith, k .room)))

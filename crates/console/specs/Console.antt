@@ -10,12 +10,12 @@ use Rattle.base.specs.Results.{Result, refused, accepted, refuse_when_otherwise
 use Rattle.codec.specs.Bytes.{over}
 use Rattle.model.specs.Memory.{Network, memoryInRange}
 use Rattle.model.specs.Calls.{Call, Open, Up, Down, Solicit, GiveUp, Expire, Deliver, Lose, Duplicate}
-use Rattle.model.specs.Calls.{step, Traced, traced, trace}
+use Rattle.model.specs.Calls.{Effect, step, Traced, traced, trace}
 use Rattle.layout.specs.Places.{layoutLength}
 use Rattle.layout.specs.Stored.{storedNetwork}
 use Rattle.layout.specs.Written.{networkBytes}
 use Rattle.layout.specs.Meaning.{hasMeaning}
-use Rattle.console.specs.Results.{packed}
+use Rattle.console.specs.Packed.{packed}
 
 -- "A console slice shorter than the layout .., or with bytes that the layout gives no meaning, counts as memory out of range".
 unfoldable pub tooShort : List ℕ → Bool

@@ -1,4 +1,4 @@
-pub mod Results
+pub mod Packed
 pub mod Console
 pub mod Contracts
 pub mod Showing

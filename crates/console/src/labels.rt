@@ -1,7 +1,7 @@
 // New label on numbers.
 ghost use mathlib.Core.Path.{_≡_};
 ghost use Rattle.label.specs.Label.{label, newLabelCall};
-ghost use Rattle.console.specs.Results.{outcomeIn};
+ghost use Rattle.console.specs.Packed.{outcomeIn};
 use crate::packed;
 use label::NewLabel;
 use label::label_of;

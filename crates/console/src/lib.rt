@@ -1,10 +1,10 @@
 // The console: entry points for C on numbers and byte slices (include/srp.h, docs/LAYOUT.md). No function asks anything of its caller.
-// Results are two numbers in one: specs/Results.antt.
+// Results are two numbers in one: specs/Packed.antt.
 ghost use mathlib.Core.Path.{_≡_};
 ghost use Prim.Native.Nat.{_≤_};
 ghost use lib.ListN.{length};
 ghost use Rattle.layout.specs.Places.{layoutLength};
-ghost use Rattle.console.specs.Results.{packed};
+ghost use Rattle.console.specs.Packed.{packed};
 ghost use Rattle.console.specs.Console.{notMemory};
 ghost use Rattle.console.specs.Showing.{outOfRange};
 ghost use Rattle.console.specs.Contracts.{Finished};
@@ -54,7 +54,7 @@ fn finish(bytes: &mut [u8], done: Done) -> u64
 {
     let answer = done.answer;
     let sent = done.sent;
-    if (0 < answer) & (answer < 9) {
+    if (0 < answer) & (answer < 100) {
         return packed(answer, sent as u32);
     }
     let memory = done.memory;

@@ -1,17 +1,18 @@
 // Reading and writing scripts.
 ghost use mathlib.Core.Path.{_≡_};
 ghost use lib.ListN.{length};
-ghost use lib.Dec.{ltb};
-ghost use Rattle.base.specs.Choice.{if_then_else_};
-ghost use Rattle.script.specs.Script.{script, decoded, reading, writing};
-ghost use Rattle.console.specs.Results.{Puts, ReadsScript};
+ghost use Prim.Native.Nat.{_*_};
+ghost use Rattle.codec.specs.Bytes.{Puts};
+ghost use Rattle.model.specs.Events.{eventLimit};
+ghost use Rattle.script.specs.Script.{script, reading, writing};
+ghost use Rattle.script.specs.Contracts.{startOf, Reads};
+ghost use Rattle.console.specs.Packed.{telling, tellingScript};
 use crate::packed;
-use codec::number_at;
 
 // Reads a script: its kinds and operands go to the start of the two lent arrays.
 #[no_mangle]
 pub extern "C" fn srp_read_script(bytes: &[u8], kinds: &mut [u8], operands: &mut [u8]) -> u64
-    ensures { λ r. ⌜ ReadsScript (reading (now (bytes .entry)) (length (now (kinds .entry))) (length (now (operands .entry))))
+    ensures { λ r. ⌜ Reads tellingScript (reading (now (bytes .entry)) (length (now (kinds .entry))) (length (now (operands .entry))))
         (now (kinds .entry)) (now (operands .entry)) r (now (kinds .exit)) (now (operands .exit)) ⌝ }
 {
     let found = script::read(bytes, kinds, operands);
@@ -21,15 +22,12 @@ pub extern "C" fn srp_read_script(bytes: &[u8], kinds: &mut [u8], operands: &mut
     packed(answer, events as u32 + 65536 * (n as u32))
 }
 
-// The start that stands in a script, which is not 0 where the script is read.
+// The start of a script that reads, and 0 for every other.
 #[no_mangle]
 pub extern "C" fn srp_script_start(bytes: &[u8]) -> u64
-    ensures { λ r. ⌜ r ≡ (if ltb (length (now (bytes .entry))) 11 then 0 else decoded (now (bytes .entry)) .start) ⌝ }
+    ensures { λ r. ⌜ r ≡ startOf (reading (now (bytes .entry)) eventLimit (2 * eventLimit)) ⌝ }
 {
-    if bytes.len() < 11 {
-        return 0;
-    }
-    number_at(bytes, 3, 8)
+    script::start(bytes)
 }
 
 // Writes a script.
@@ -41,10 +39,10 @@ pub extern "C" fn srp_write_script(
     operands: &[u8],
     out: &mut [u8],
 ) -> u64
-    ensures { λ r. ⌜ Puts (writing (script n start (now (kinds .entry)) (now (operands .entry))) (length (now (out .entry)))) (now (out .entry)) r (now (out .exit)) ⌝ }
+    ensures { λ r. ⌜ Puts telling (writing (script n start (now (kinds .entry)) (now (operands .entry))) (length (now (out .entry)))) (now (out .entry)) r (now (out .exit)) ⌝ }
 {
     let written = script::write(n, start, kinds, operands, out);
     let answer = written.answer;
-    let length = written.length;
+    let length = written.bytes;
     packed(answer, length as u32)
 }

@@ -3,8 +3,10 @@ ghost use mathlib.Core.Path.{_≡_};
 ghost use Prim.Native.Nat.{_≤_};
 ghost use lib.ListN.{length};
 ghost use lib.Seq.{sets};
-ghost use Rattle.console.specs.Results.{telling, Puts};
-ghost use Rattle.console.specs.Showing.{showing, fitted, showSize, showAir, showLink, showLabel, showRow, showRecord, stationBytes, showStation, showPacket};
+ghost use Rattle.base.specs.Results.{_andThen_};
+ghost use Rattle.codec.specs.Bytes.{Puts};
+ghost use Rattle.console.specs.Packed.{telling};
+ghost use Rattle.console.specs.Showing.{showing, shownIn, showSize, showAir, showLink, showLabel, showRow, showRecord, stationBytes, showStation, showPacket};
 use crate::out_of_range;
 use crate::packed;
 use codec::number_at;
@@ -73,7 +75,7 @@ pub extern "C" fn srp_link(memory: &[u8], a: usize, b: usize) -> u64
 // Station i's label for t.
 #[no_mangle]
 pub extern "C" fn srp_label(memory: &[u8], i: usize, t: usize, out: &mut [u8]) -> u64
-    ensures { λ r. ⌜ Puts (fitted (length (now (out .entry))) (showing (now (memory .entry)) (showLabel i t))) (now (out .entry)) r (now (out .exit)) ⌝ }
+    ensures { λ r. ⌜ Puts telling (showing (now (memory .entry)) (showLabel i t) andThen shownIn (length (now (out .entry)))) (now (out .entry)) r (now (out .exit)) ⌝ }
 {
     if out_of_range(memory) {
         return 1;
@@ -92,7 +94,7 @@ pub extern "C" fn srp_label(memory: &[u8], i: usize, t: usize, out: &mut [u8]) -
 // Station i's row for t.
 #[no_mangle]
 pub extern "C" fn srp_row(memory: &[u8], i: usize, t: usize, out: &mut [u8]) -> u64
-    ensures { λ r. ⌜ Puts (fitted (length (now (out .entry))) (showing (now (memory .entry)) (showRow i t))) (now (out .entry)) r (now (out .exit)) ⌝ }
+    ensures { λ r. ⌜ Puts telling (showing (now (memory .entry)) (showRow i t) andThen shownIn (length (now (out .entry)))) (now (out .entry)) r (now (out .exit)) ⌝ }
 {
     if out_of_range(memory) {
         return 1;
@@ -111,7 +113,7 @@ pub extern "C" fn srp_row(memory: &[u8], i: usize, t: usize, out: &mut [u8]) -> 
 // Station i's record for a source.
 #[no_mangle]
 pub extern "C" fn srp_record(memory: &[u8], i: usize, source: usize, out: &mut [u8]) -> u64
-    ensures { λ r. ⌜ Puts (fitted (length (now (out .entry))) (showing (now (memory .entry)) (showRecord i source))) (now (out .entry)) r (now (out .exit)) ⌝ }
+    ensures { λ r. ⌜ Puts telling (showing (now (memory .entry)) (showRecord i source) andThen shownIn (length (now (out .entry)))) (now (out .entry)) r (now (out .exit)) ⌝ }
 {
     if out_of_range(memory) {
         return 1;
@@ -143,7 +145,7 @@ fn put_station(out: &mut [u8], number: u32, sought: u8, active: bool)
 // What station i keeps of its own requests.
 #[no_mangle]
 pub extern "C" fn srp_station(memory: &[u8], i: usize, out: &mut [u8]) -> u64
-    ensures { λ r. ⌜ Puts (fitted (length (now (out .entry))) (showing (now (memory .entry)) (showStation i))) (now (out .entry)) r (now (out .exit)) ⌝ }
+    ensures { λ r. ⌜ Puts telling (showing (now (memory .entry)) (showStation i) andThen shownIn (length (now (out .entry)))) (now (out .entry)) r (now (out .exit)) ⌝ }
 {
     if out_of_range(memory) {
         return 1;
@@ -167,7 +169,7 @@ pub extern "C" fn srp_station(memory: &[u8], i: usize, out: &mut [u8]) -> u64
 // Packet k.
 #[no_mangle]
 pub extern "C" fn srp_packet(memory: &[u8], k: usize, out: &mut [u8]) -> u64
-    ensures { λ r. ⌜ Puts (fitted (length (now (out .entry))) (showing (now (memory .entry)) (showPacket k))) (now (out .entry)) r (now (out .exit)) ⌝ }
+    ensures { λ r. ⌜ Puts telling (showing (now (memory .entry)) (showPacket k) andThen shownIn (length (now (out .entry)))) (now (out .entry)) r (now (out .exit)) ⌝ }
 {
     if out_of_range(memory) {
         return 1;

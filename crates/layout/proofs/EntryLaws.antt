@@ -19,7 +19,7 @@ use Rattle.network.specs.declared.Row as code
 use Rattle.network.specs.declared.Air.{Air}
 use Rattle.network.specs.View as view
 use Rattle.network.specs.View.{entryOf, rowOf, bodyOf, packetOf, airOf}
-use Rattle.network.proofs.RowLaws.{Four}
+use Rattle.network.proofs.Bounds.{RowLengths}
 use Rattle.network.proofs.PacketLaws.{packetIn}
 use Rattle.layout.specs.Written.{flag, padded, labelBytes, zeroSuccessor, successorBytes, rowBytes, recordBytes, fieldBytes, bodyBytes, packetBytes}
 
@@ -107,20 +107,20 @@ module _ (out : List ℕ) (at : ℕ) where
       ∙ sets-next (sets out at head) (at + 4) (at + 8) (littleEndian 4 number) (destination ∷ (labelBytes l ++ last)) (omega (arith, little-length 4 number))
       ∙ sets-next out at (at + 4) head (littleEndian 4 number ++ (destination ∷ (labelBytes l ++ last))) (omega arith)
 
--- Past its four places a row reads as zeros.
-pub row-past : (row : code.Row) → Four row → (k : ℕ) → rowLimit ≤ k → getD (rowOf row) k zeroSuccessor ≡ zeroSuccessor
+-- Past its places a row reads as zeros.
+pub row-past : (row : code.Row) → RowLengths row → (k : ℕ) → rowLimit ≤ k → getD (rowOf row) k zeroSuccessor ≡ zeroSuccessor
 unfolding rowOf entryOf zeroSuccessor zeroLabel
-row-past row four k h =
+row-past row long k h =
     let none : entryOf row k ≡ zeroSuccessor =
-    rw (List·getD-eq-default (row .stations) 0 {n = k} (omega (arith, four .stations-length)), List·getD-eq-default (row .labels) (label 0 0 0) {n = k} (omega (arith, four .labels-length))) in
+    rw (List·getD-eq-default (row .stations) 0 {n = k} (omega (arith, long .stations-length)), List·getD-eq-default (row .labels) (label 0 0 0) {n = k} (omega (arith, long .labels-length))) in
     tabulate-or (row .count) (entryOf row) k zeroSuccessor ∙ choose (λ (z : Successor). z ≡ zeroSuccessor) (ltb k (row .count)) (λ e. none) (λ e. refl)
 
--- Past its 128 places the air reads as zeros.
+-- Past its places the air reads as zeros.
 pub zero-packet : packetOf view.zeroPacket ≡ zeroPacket
 unfolding packetOf bodyOf zeroPacket
 zero-packet = refl
 
-pub air-past : (air : Air) → length (air .packets) ≡ 128 → (k : ℕ) → airLimit ≤ k → getD (airOf air) k zeroPacket ≡ zeroPacket
+pub air-past : (air : Air) → length (air .packets) ≡ airLimit → (k : ℕ) → airLimit ≤ k → getD (airOf air) k zeroPacket ≡ zeroPacket
 unfolding airOf
 air-past air room k h =
     let none : packetIn (air .packets) k ≡ zeroPacket =

@@ -49,14 +49,11 @@ use Rattle.network.proofs.Packet as packet
 use Rattle.network.proofs.Packet.Laws as packet′
 use Rattle.network.proofs.Air as air
 use Rattle.network.proofs.Air.Laws as air′
-use Rattle.network.proofs.Lengths.{ValidAir}
+use Rattle.network.proofs.Bounds.{ValidPacket, ValidAir}
 
--- A packet's machine values, that they stand for it, and its bytes in memory.
+-- A packet's machine values, and its bytes in memory.
 abbrev pub packet-vals : Packet → List Val
 packet-vals = vals packet.the-type packet′.the-laws
-
-abbrev pub ValidPacket : Packet → Type 0
-ValidPacket p = Is packet.the-row p (packet-vals p)
 
 abbrev pub size : ℕ
 size = mem packet.the-row .size

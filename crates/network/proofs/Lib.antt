@@ -1,6 +1,6 @@
 pub mod Bits
 pub mod ViewLaws
-pub mod Lengths
+pub mod Bounds
 pub mod RowLaws
 pub mod CutLaws
 pub mod PacketLaws

@@ -20,7 +20,7 @@ use Rattle.model.specs.Calls.{empties}
 use Rattle.network.specs.declared.Row.{Row}
 use Rattle.network.specs.declared.rows.Keep.the-variants.{Without}
 use Rattle.network.specs.View.{successor, entryOf, rowOf, keeps}
-use Rattle.network.proofs.Lengths.{RowLengths}
+use Rattle.network.proofs.Bounds.{RowLengths}
 
 -- Whether entry k names j.
 module _ (row : Row) (k j : ℕ) where

@@ -53,7 +53,7 @@ pub record Tested (bytes : List ℕ) : Type 0 where
   pub all : allEvents (decoded bytes .kinds) (decoded bytes .operands) ≡ true
 
 -- No number of a refusal is 0.
-abbrev Positive : ℕ → Type 0
+abbrev pub Positive : ℕ → Type 0
 Positive number = 0 < number
 
 module _ (bytes : List ℕ) where
@@ -100,7 +100,7 @@ module _ (bytes : List ℕ) where
   parsing-accepted t =
       refuse-passes 9 _ _ (t .long) ∙ refuse-passes 10 _ _ (t .counted) ∙ refuse-passes 1 _ _ (t .opens) ∙ refuse-passes 11 _ _ (ap not (t .all))
 
-  abbrev Parsed : Script → Type 0
+  abbrev pub Parsed : Script → Type 0
   Parsed s = Tested bytes × (s ≡ decoded bytes)
 
   parsing-ends : Ends Positive Parsed (parsing bytes)

@@ -2,7 +2,7 @@
 use mathlib.Core.Path.{refl}
 use borrow.Author.Needs.{needs}
 use Rattle.base.proofs.Booleans.{clash}
-use Rattle.model.specs.Calls.{turnsDown}
+use Rattle.base.specs.Results.{isRefusal}
 use Rattle.console.proofs.finish.Statement.{statement}
 use Rattle.console.proofs.finish.Tie as tie
 
@@ -13,8 +13,8 @@ packed-requires : tie.Need-packed-requires
 packed-requires c κs = search needs
 
 returns : tie.Need-returns
-unfolding turnsDown
-returns c = record { result = c .packed .ensures; kept = λ h. refl; written = λ h. clash (c .before .if1 .taken) h }
+unfolding isRefusal
+returns c = record { result = c .packed .ensures; unchanged = λ h. refl; written = λ h. clash (c .before .if1 .taken) h }
 
 write-requires : tie.Need-write-requires
 write-requires c κs = search needs
@@ -29,10 +29,10 @@ same-length : tie.Need-same-length
 same-length c = search needs
 
 returns-2 : tie.Need-returns-2
-unfolding turnsDown
+unfolding isRefusal
 returns-2 c =
     let past = c .before .before .before .before .before .before in
-    record { result = c .packed2 .ensures; kept = λ h. clash h (past .if1 .left); written = λ h. c .before .before .before .write .ensures }
+    record { result = c .packed2 .ensures; unchanged = λ h. clash h (past .if1 .left); written = λ h. c .before .before .before .write .ensures }
 
 pub finish-spec : {M : Type 1} → statement M
 finish-spec =

@@ -8,10 +8,10 @@ use Rattle.model.specs.Calls.{Traced, traced, trace}
 use Rattle.network.specs.View.{view}
 use Rattle.layout.specs.Stored.{storedMemory, storedNetwork}
 use Rattle.steps.proofs.TraceLaws.{walks}
-use Rattle.console.specs.Results.{packed}
+use Rattle.console.specs.Packed.{packed}
 use Rattle.console.specs.Console.{notMemory}
 use Rattle.console.proofs.ConsoleLaws.{memory-long, tracing-1, tracing-memory, unpacked}
-use Rattle.console.proofs.MadeLaws.{made-stores, made-reached}
+use Rattle.console.proofs.MadeLaws.{made-readable, made-reaches}
 use Rattle.console.proofs.calls.srp_trace.Statement.{statement}
 use Rattle.console.proofs.calls.srp_trace.Tie as tie
 
@@ -25,7 +25,7 @@ not-memory-requires c κs = search needs
 returns : tie.Need-returns
 returns c =
     let none = was-true _ _ (c .before .not-memory .ensures) (c .if1 .taken) in
-    (ap (λ (x : Traced). packed (x .answer) (x .hops)) (sym (tracing-1 _ _ _ none)), λ made. clash none (made-stores _ made .readable))
+    (ap (λ (x : Traced). packed (x .answer) (x .hops)) (sym (tracing-1 _ _ _ none)), λ made. clash none (made-readable _ made))
 
 read-requires : tie.Need-read-requires
 read-requires c κs = memory-long _ (readable c)
@@ -51,7 +51,7 @@ returns-2 c =
     let small : told .answer < 4_294_967_296 = search needs in
     let halves = unpacked (told .answer) (told .hops) small in (
       c .packed .ensures ∙ ap (λ (x : Traced). packed (x .answer) (x .hops)) (same ∙ sym (tracing-memory _ _ _ (readable past))),
-      λ made. walks (storedMemory (args .memory .now)) (args .a) (args .t) _ (rw (c .packed .ensures, halves .0, halves .1) same) (made-reached _ made),
+      λ made. walks (storedMemory (args .memory .now)) (args .a) (args .t) _ (rw (c .packed .ensures, halves .0, halves .1) same) (made-reaches _ made),
     )
 
 pub srp-trace-spec : {M : Type 1} → statement M

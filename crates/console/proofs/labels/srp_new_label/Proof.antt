@@ -4,7 +4,7 @@ use mathlib.Core.Path.{_≡_, sym, ap, _∙_}
 use borrow.Author.Needs.{needs}
 use Rattle.label.specs.declared.Label.{Label}
 use Rattle.label.specs.Label.{label, took, outcome, newLabelCall}
-use Rattle.console.specs.Results.{outcomeIn}
+use Rattle.console.specs.Packed.{outcomeIn}
 use Rattle.console.proofs.LabelResults.{took-told}
 use Rattle.console.proofs.labels.srp_new_label.Statement.{statement}
 use Rattle.console.proofs.labels.srp_new_label.Tie as tie

@@ -2,12 +2,13 @@
 use Prim.Native.Nat.{_≤_}
 use native.Mathlib.Omega.{arith}
 use borrow.Author.Needs.{needs}
+use Rattle.model.specs.Events.{eventLimit}
 use Rattle.console.proofs.ScriptResults.{read-small, read-told}
 use Rattle.console.proofs.scripts.srp_read_script.Statement.{statement}
 use Rattle.console.proofs.scripts.srp_read_script.Tie as tie
 
 -- There are few events.
-small : (c : tie.After-slice-known4) → c .before .before .before .before .read .result .events ≤ 4_096
+small : (c : tie.After-slice-known4) → c .before .before .before .before .read .result .events ≤ eventLimit
 small c =
     let read = c .before .before .before .before in
     let args = read .before .before .before .before .before .before .args in

@@ -17,7 +17,7 @@ use Rattle.layout.specs.Stored.{storedPacket, storedNetwork}
 use Rattle.layout.specs.Written.{packetBytes}
 use Rattle.layout.proofs.EntryLaws.{packet-wide}
 use Rattle.console.specs.Showing.{outOfRange, showPacket}
-use Rattle.console.proofs.ShowLaws.{known, puts-1, puts-refused, puts-12, puts-shown}
+use Rattle.console.proofs.ShowLaws.{known, puts-1, puts-other, puts-12, puts-shown}
 use Rattle.console.proofs.ShownLaws.{show-packet-6, show-packet}
 use Rattle.console.proofs.showing.srp_packet.Statement.{statement}
 use Rattle.console.proofs.showing.srp_packet.Tie as tie
@@ -67,7 +67,7 @@ cast-count c = omega (arith, c .shared-slice-known2 .given 28_001)
 returns-2 : tie.Need-returns-2
 returns-2 c =
     let args = c .before .before .before .before .before .before .args in
-    puts-refused (args .memory .now) (showPacket (args .k)) (args .out .now) 6 (in-range (c .before .before)) (show-packet-6 _ _ (le-leb _ _ (c .if2 .taken)))
+    puts-other (args .memory .now) (showPacket (args .k)) (args .out .now) 6 (in-range (c .before .before)) (show-packet-6 _ _ (le-leb _ _ (c .if2 .taken)))
 
 returns-3 : tie.Need-returns-3
 returns-3 c =

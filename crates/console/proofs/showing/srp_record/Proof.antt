@@ -14,7 +14,7 @@ use Rattle.layout.specs.Stored.{storedRecord, storedNetwork}
 use Rattle.layout.specs.Written.{recordBytes}
 use Rattle.layout.proofs.EntryLaws.{record-wide}
 use Rattle.console.specs.Showing.{outOfRange, showRecord}
-use Rattle.console.proofs.ShowLaws.{known, puts-1, puts-refused, puts-12, puts-shown}
+use Rattle.console.proofs.ShowLaws.{known, puts-1, puts-other, puts-12, puts-shown}
 use Rattle.console.proofs.ShownLaws.{noPair, pair-below, show-record-2, show-record}
 use Rattle.console.proofs.showing.srp_record.Statement.{statement}
 use Rattle.console.proofs.showing.srp_record.Tie as tie
@@ -66,7 +66,7 @@ returns-2 : tie.Need-returns-2
 returns-2 c =
     let args = c .before .before .before .before .before .before .before .args in
     let none = was-true _ _ (c .before .not-pair .ensures) (c .if2 .taken) in
-    puts-refused (args .memory .now) (showRecord (args .i) (args .source)) (args .out .now) 2 (in-range (c .before .before .before)) (show-record-2 _ _ _ none)
+    puts-other (args .memory .now) (showRecord (args .i) (args .source)) (args .out .now) 2 (in-range (c .before .before .before)) (show-record-2 _ _ _ none)
 
 returns-3 : tie.Need-returns-3
 returns-3 c =

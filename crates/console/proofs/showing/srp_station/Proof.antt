@@ -12,7 +12,7 @@ use Rattle.codec.specs.Bytes.{byteAt, numberAt}
 use Rattle.layout.specs.Places.{layoutLength, numbersAt, soughtAt, activeAt}
 use Rattle.layout.specs.Stored.{storedFlag, storedNetwork}
 use Rattle.console.specs.Showing.{outOfRange, stationBytes, showStation}
-use Rattle.console.proofs.ShowLaws.{known, puts-1, puts-refused, puts-12, puts-shown}
+use Rattle.console.proofs.ShowLaws.{known, puts-1, puts-other, puts-12, puts-shown}
 use Rattle.console.proofs.ShownLaws.{station-wide, noStation, station-below, show-station-2, show-station}
 use Rattle.console.proofs.showing.srp_station.Statement.{statement}
 use Rattle.console.proofs.showing.srp_station.Tie as tie
@@ -67,7 +67,7 @@ returns-2 : tie.Need-returns-2
 returns-2 c =
     let args = c .before .before .before .before .before .before .before .args in
     let none = was-true _ _ (c .before .not-station .ensures) (c .if2 .taken) in
-    puts-refused (args .memory .now) (showStation (args .i)) (args .out .now) 2 (in-range (c .before .before .before)) (show-station-2 _ _ none)
+    puts-other (args .memory .now) (showStation (args .i)) (args .out .now) 2 (in-range (c .before .before .before)) (show-station-2 _ _ none)
 
 returns-3 : tie.Need-returns-3
 returns-3 c =

@@ -1,6 +1,7 @@
 -- `entries::put_label` meets its contract: the three parts put one after the other.
 use mathlib.Core.Path.{_∙_}
 use borrow.Author.Needs.{needs}
+use Rattle.network.proofs.Bounds.{label-bounds}
 use Rattle.layout.proofs.EntryLaws.{label-put}
 use Rattle.layout.proofs.entries.put_label.Statement.{statement}
 use Rattle.layout.proofs.entries.put_label.Tie as tie
@@ -36,9 +37,9 @@ returns c =
     let first = second .before .before .before .before in
     let start = first .before .before .before in
     let args = start .args in
-    let fits = start .good .1 .1 .0 .1 .1 in (
+    let fits = label-bounds (args .l) (start .good .1 .1 .0) in (
       third .put-number3 .ensures ∙ rw (second .put-number2 .ensures, first .put-number .ensures) (label-put (args .out .now) (args .at) (args .l)),
-      record { s = fits .0 .1 .1 .0 .1; m = fits .1 .0 .1; d = fits .1 .1 .0 .1 },
+      record { s = fits .s-below; m = fits .m-below; d = fits .d-below },
     )
 
 pub put-label-spec : {M : Type 1} → statement M

@@ -6,12 +6,12 @@ use lib.ListN.{getD}
 use native.Mathlib.Omega.{arith}
 use borrow.Author.Needs.{needs}
 use Rattle.base.specs.Lists.{tabulate}
-use Rattle.base.proofs.Lists.{unmapped}
+use Rattle.network.proofs.Bounds.{RowLengths, row-lengths}
 use Rattle.codec.proofs.ByteLaws.{sets-next}
 use Rattle.model.specs.Memory.{Successor}
 use Rattle.network.specs.declared.Row.{Row}
 use Rattle.network.specs.View.{rowOf}
-use Rattle.network.proofs.RowLaws.{Four, row-length}
+use Rattle.network.proofs.RowLaws.{row-length}
 use Rattle.layout.specs.Written.{padded, zeroSuccessor, successorBytes, rowBytes}
 use Rattle.layout.specs.Fits.{LabelFits}
 use Rattle.layout.proofs.EntryLaws.{successor-wide, row-past}
@@ -32,9 +32,8 @@ Inv-loop out₀ at row count k₀ out k =
 abbrev μ-loop : tie.MeasureT-loop
 μ-loop out₀ at row count k₀ out k = 4 - k
 
--- The row's arrays have four places.
-four : (c : tie.Start Inv-loop μ-loop) → Four (c .args .row)
-four c = record { stations-length = search needs; labels-length = unmapped _ (c .args .row .labels) 4 (c .good .1 .1 .0 .1 .1 .0 .1 .0 .1) }
+long : (c : tie.Start Inv-loop μ-loop) → RowLengths (c .args .row)
+long c = row-lengths (c .args .row) (c .good .1 .1 .0)
 
 put-byte-requires : tie.Need-put-byte-requires Inv-loop μ-loop
 put-byte-requires c κs = search needs
@@ -94,7 +93,7 @@ returns c =
     let put = loop .inv .1 in (
       put .stands ∙ rw (all, first .put-byte .ensures, row-length row) (sets-next (start .args .out .now) (start .args .at) (start .args .at + 1) (row .count ∷ [])
           (flatMap successorBytes (tabulate 4 (entryIn row))) refl),
-      record { labels = λ k h. put .fits k (omega arith); past = row-past row (four start) },
+      record { labels = λ k h. put .fits k (omega arith); past = row-past row (long start) },
     )
 
 pub put-row-spec : {M : Type 1} → statement M

@@ -4,7 +4,7 @@ use mathlib.Core.Path.{_≡_, refl, subst, _∙_}
 use lib.ListN.{length, getD}
 use native.Mathlib.Omega.{arith}
 use borrow.Author.Needs.{needs}
-use Rattle.base.proofs.Lists.{unmapped}
+use Rattle.network.proofs.Bounds.{memory-lengths}
 use Rattle.base.proofs.Loops.{tabulate-map}
 use Rattle.label.specs.declared.Label.{Label}
 use Rattle.codec.proofs.ByteLaws.{sets-over}
@@ -159,8 +159,9 @@ returns c =
     let out = start .args .out .now in
     let all : loop .i ≡ 256 = omega arith in
     let placed : Placed (labelIn memory) (rowIn memory) (recordIn memory) (head .write-head .last .0) (loop .out) 256 = rw all at (loop .inv .2) in
-    let rows = tabulate-map rowOf (memory .rows) 256 zeroRow (unmapped _ (memory .rows) 256 (start .good .1 .0 .1 .1 .1 .1 .1 .0 .1 .0 .1)) in
-    let records = tabulate-map recordOf (memory .records) 256 zeroRecord (unmapped _ (memory .records) 256 (start .good .1 .0 .1 .1 .1 .1 .1 .1 .0 .1 .0 .1)) in
+    let long = memory-lengths memory (start .good .1 .0) in
+    let rows = tabulate-map rowOf (memory .rows) 256 zeroRow (long .rows-length) in
+    let records = tabulate-map recordOf (memory .records) 256 zeroRecord (long .records-length) in
     let tables = placed-fit _ _ _ _ (loop .out) placed (net .labels) (net .rows) (net .records) refl rows records in
     let fits : NetworkFits net = record { head = head .write-head .ensures .1; labels = tables .0; rows = tables .1; records = tables .2; air = air .put-air .ensures .1 } in (
       air .put-air .ensures .0

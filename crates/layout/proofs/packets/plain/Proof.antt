@@ -3,20 +3,24 @@ use Prim.Native.Nat.{_^_, _<_}
 use borrow.Author.Needs.{needs}
 use Rattle.model.specs.Memory.{zeroLabel}
 use Rattle.network.specs.View.{requestOf, replyOf, packetOf}
+use Rattle.network.proofs.Bounds.{PacketBounds, packet-bounds}
 use Rattle.network.proofs.ViewLaws.{body-request, body-reply, body-error, body-other}
 use Rattle.layout.specs.Written.{bodyBytes, packetBytes}
 use Rattle.layout.specs.Fits.{LabelFits, BodyFits}
 use Rattle.layout.proofs.packets.plain.Statement.{statement}
 use Rattle.layout.proofs.packets.plain.Tie as tie
 
+bounds : (c : tie.Start) → PacketBounds (c .args .p)
+bounds c = packet-bounds (c .args .p) (c .good .0)
+
 number : (c : tie.Start) → c .args .p .number .0 < 256 ^ 4
-number c = c .good .0 .1 .1 .1 .0 .1 .1 .0 .1
+number c = bounds c .number-below
 
 mask : (c : tie.Start) → c .args .p .mask < 256 ^ 2
-mask c = c .good .0 .1 .1 .1 .1 .0 .1
+mask c = bounds c .mask-below
 
 label : (c : tie.Start) → LabelFits (c .args .p .label)
-label c = let good = c .good .0 .1 .1 .0 .1 .1 in record { s = good .0 .1 .1 .0 .1; m = good .1 .0 .1; d = good .1 .1 .0 .1 }
+label c = let l = bounds c .label in record { s = l .s-below; m = l .m-below; d = l .d-below }
 
 returns : tie.Need-returns
 unfolding packetOf packetBytes bodyBytes requestOf BodyFits

@@ -6,10 +6,10 @@ use lib.ListN.{length, getD}
 use native.Mathlib.Omega.{arith}
 use borrow.Author.Needs.{needs}
 use Rattle.base.specs.Lists.{tabulate}
-use Rattle.base.proofs.Lists.{unmapped}
+use Rattle.network.proofs.Bounds.{packets-length}
 use Rattle.base.proofs.Loops.{tabulate-or}
 use Rattle.codec.proofs.ByteLaws.{sets-next}
-use Rattle.model.specs.Memory.{Packet, zeroPacket}
+use Rattle.model.specs.Memory.{Packet, zeroPacket, airLimit}
 use Rattle.network.specs.declared.Air.{Air}
 use Rattle.network.specs.View.{packetOf, airOf}
 use Rattle.network.proofs.PacketLaws.{air-length, packetIn}
@@ -33,9 +33,8 @@ Inv-loop out₀ at air count limit k₀ out k =
 abbrev μ-loop : tie.MeasureT-loop
 μ-loop out₀ at air count limit k₀ out k = 128 - k
 
--- The array has 128 places.
-room : (c : tie.Start Inv-loop μ-loop) → length (c .args .t3 .packets) ≡ 128
-room c = unmapped _ (c .args .t3 .packets) 128 (c .good .1 .1 .0 .1 .1 .0 .1 .0 .1)
+room : (c : tie.Start Inv-loop μ-loop) → length (c .args .t3 .packets) ≡ airLimit
+room c = packets-length (c .args .t3) (c .good .1 .1 .0)
 
 put-byte-requires : tie.Need-put-byte-requires Inv-loop μ-loop
 put-byte-requires c κs = search needs

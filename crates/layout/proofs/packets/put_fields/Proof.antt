@@ -2,6 +2,7 @@
 use mathlib.Core.Path.{_∙_}
 use native.Mathlib.Omega.{arith}
 use borrow.Author.Needs.{needs}
+use Rattle.network.proofs.Bounds.{packet-bounds}
 use Rattle.layout.proofs.EntryLaws.{field-put}
 use Rattle.layout.proofs.packets.put_fields.Statement.{statement}
 use Rattle.layout.proofs.packets.put_fields.Tie as tie
@@ -43,7 +44,7 @@ cast-put-number : tie.Need-cast-put-number
 cast-put-number c =
     let number = c .before .before .before .before .before .before .before .before .before .before .before .before .before .before .before .before in
     let start = number .before .before .before .before .before .before .before .before .before in
-    record { fits = omega (arith, start .good .1 .1 .0 .1 .1 .1 .1 .0 .1) }
+    record { fits = omega (arith, packet-bounds _ (start .good .1 .1 .0) .mask-below) }
 
 put-number-requires : tie.Need-put-number-requires
 put-number-requires c κs = search needs

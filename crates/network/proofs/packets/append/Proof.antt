@@ -36,8 +36,8 @@ use denote.Exit.{yes}
 use Rattle.network.specs.declared.Packet.{Packet}
 use Rattle.network.specs.declared.Air.{Air}
 use Rattle.network.proofs.PacketLaws.{appended-air}
-use Rattle.network.proofs.Lent.{packet-vals, ValidPacket, packet-typed, air-of, air-vals, air-typed, air-counts}
-use Rattle.network.proofs.Lengths.{ValidAir, packets-length}
+use Rattle.network.proofs.Lent.{packet-vals, packet-typed, air-of, air-vals, air-typed, air-counts}
+use Rattle.network.proofs.Bounds.{ValidPacket, ValidAir, packets-length}
 use Rattle.network.proofs.Lent.{slice-type, slice-of, Slice, local, var, owns-packet, owns-number, Left, ended, calls-lent, exits-air}
 use Rattle.network.proofs.Packet as packet
 use Rattle.network.proofs.Packet.Laws as packet′

@@ -14,7 +14,7 @@ use Rattle.model.specs.Calls.{packet}
 use Rattle.model.proofs.Links.{link-at}
 use Rattle.network.specs.declared.Air.{Air}
 use Rattle.network.specs.View.{bodyOf, airOf}
-use Rattle.network.proofs.Lengths.{packets-length}
+use Rattle.network.proofs.Bounds.{packets-length}
 use Rattle.network.proofs.PacketLaws.{Held, held-more}
 use Rattle.network.proofs.packets.broadcast.Statement.{statement}
 use Rattle.network.proofs.packets.broadcast.Tie as tie

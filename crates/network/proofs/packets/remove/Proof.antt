@@ -40,7 +40,7 @@ use Rattle.network.specs.declared.Packet.{Packet}
 use Rattle.network.specs.declared.Air.{Air}
 use Rattle.network.proofs.PacketLaws.{removed-air}
 use Rattle.network.proofs.Lent.{air-of, air-vals, air-typed, air-counts}
-use Rattle.network.proofs.Lengths.{ValidAir, packets-length}
+use Rattle.network.proofs.Bounds.{ValidAir, packets-length}
 use Rattle.network.proofs.Lent.{slice-type, slice-of, Slice, local, var, owns-number, Left, ended, calls-lent, exits-air}
 use Rattle.network.proofs.Air as air
 use Rattle.network.proofs.Air.Laws as air′

@@ -9,7 +9,7 @@ use Rattle.base.proofs.Booleans.{cases, not-was-true, not-was-false}
 use Rattle.base.proofs.Loops.{keep-yes, keep-no}
 use Rattle.network.specs.declared.Air.{Air}
 use Rattle.network.specs.View.{airOf}
-use Rattle.network.proofs.Lengths.{packets-length}
+use Rattle.network.proofs.Bounds.{packets-length}
 use Rattle.network.proofs.PacketLaws.{packetIn, apart, Held, held-more}
 use Rattle.network.proofs.packets.without_between.Statement.{statement}
 use Rattle.network.proofs.packets.without_between.Tie as tie

@@ -1,7 +1,7 @@
 -- `rows::push` meets its contract: an entry written at the count is one more.
 use native.Mathlib.Omega.{arith}
 use borrow.Author.Needs.{needs}
-use Rattle.network.proofs.Lengths.{row-lengths}
+use Rattle.network.proofs.Bounds.{row-lengths}
 use Rattle.network.proofs.RowLaws.{row-push}
 use Rattle.network.proofs.rows.push.Statement.{statement}
 use Rattle.network.proofs.rows.push.Tie as tie

@@ -9,7 +9,7 @@ use Rattle.model.specs.Memory as model
 use Rattle.model.specs.Memory.{names}
 use Rattle.model.proofs.Rows.{room-length, put-again, put-last}
 use Rattle.network.specs.View.{successor, rowOf}
-use Rattle.network.proofs.Lengths.{row-lengths}
+use Rattle.network.proofs.Bounds.{row-lengths}
 use Rattle.network.proofs.RowLaws.{row-length, row-set}
 use Rattle.network.proofs.rows.put.Statement.{statement}
 use Rattle.network.proofs.rows.put.Tie as tie

@@ -6,7 +6,7 @@ use native.Mathlib.Omega.{arith}
 use borrow.Author.Needs.{needs}
 use Rattle.model.specs.Printout.{labelLines}
 use Rattle.network.specs.View.{view}
-use Rattle.network.proofs.Lengths.{sized}
+use Rattle.network.proofs.Bounds.{sized}
 use Rattle.network.proofs.Ranged.{Ranged, in-range-ranged}
 use Rattle.printout.specs.Text.{labelText}
 use Rattle.printout.specs.Contracts.{Puts}

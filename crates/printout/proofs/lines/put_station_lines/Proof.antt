@@ -8,7 +8,7 @@ use Rattle.base.specs.Lists.{below}
 use Rattle.model.specs.Memory.{place}
 use Rattle.model.specs.Printout.{isListed, stationLines}
 use Rattle.network.specs.View.{labelOf, view}
-use Rattle.network.proofs.Lengths.{sized}
+use Rattle.network.proofs.Bounds.{sized}
 use Rattle.network.proofs.Ranged.{Ranged, in-range-ranged}
 use Rattle.printout.specs.Contracts.{Puts}
 use Rattle.printout.proofs.TextLaws.{puts-none, puts-append, puts-length}

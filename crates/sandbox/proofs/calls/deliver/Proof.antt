@@ -8,7 +8,7 @@ use Rattle.model.specs.Memory.{memoryInRange}
 use Rattle.model.specs.Calls.{Deliver}
 use Rattle.model.proofs.Refusals.{deliver-6}
 use Rattle.network.specs.View.{view}
-use Rattle.network.proofs.Lengths.{sized}
+use Rattle.network.proofs.Bounds.{sized}
 use Rattle.network.proofs.Ranged.{Ranged, in-range-ranged}
 use Rattle.steps.proofs.CallLaws.{called-refused, called-out-of-range}
 use Rattle.steps.proofs.DeliveryLaws.{packetOn, kind-none, kind-there}

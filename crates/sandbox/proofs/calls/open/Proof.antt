@@ -9,7 +9,7 @@ use Rattle.model.specs.Calls.{effect, notOpening}
 use Rattle.model.proofs.Range.{Sized}
 use Rattle.model.proofs.Refusals.{open-1, open-accepted, opening-tells}
 use Rattle.network.specs.View.{view}
-use Rattle.network.proofs.Lengths.{sized}
+use Rattle.network.proofs.Bounds.{sized}
 use Rattle.steps.proofs.CallLaws.{called-refused, called-accepted}
 use Rattle.sandbox.proofs.calls.open.Statement.{statement}
 use Rattle.sandbox.proofs.calls.open.Tie as tie

@@ -3,7 +3,7 @@ use Prim.Native.Nat.{_<_}
 use mathlib.Core.Path.{_≡_, _∙_}
 use borrow.Author.Needs.{needs}
 use Rattle.model.proofs.Refusals.{deliver-6}
-use Rattle.network.proofs.Lengths.{sized}
+use Rattle.network.proofs.Bounds.{sized}
 use Rattle.network.proofs.Ranged.{Ranged, in-range-ranged}
 use Rattle.steps.proofs.CallLaws.{called-refused}
 use Rattle.steps.proofs.DeliveryLaws.{packetOn, kind-none, kind-there}

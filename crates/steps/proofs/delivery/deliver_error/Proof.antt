@@ -13,7 +13,7 @@ use Rattle.model.proofs.Refusals.{deliver-limited}
 use Rattle.network.specs.View.{airOf, view}
 use Rattle.network.proofs.ViewLaws.{body-error}
 use Rattle.network.proofs.PacketLaws.{air-length}
-use Rattle.network.proofs.Lengths.{sized}
+use Rattle.network.proofs.Bounds.{sized}
 use Rattle.network.proofs.Ranged.{Ranged, in-range-ranged}
 use Rattle.station.specs.Reacting.{sentBy}
 use Rattle.station.proofs.Laws.{sent-few}

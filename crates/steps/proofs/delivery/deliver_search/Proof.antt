@@ -13,7 +13,7 @@ use Rattle.model.proofs.Refusals.{deliver-limited}
 use Rattle.network.specs.View.{zeroRow, zeroRecord, labelOf, view}
 use Rattle.network.proofs.ViewLaws.{number-at, Labels}
 use Rattle.network.proofs.PacketLaws.{air-length}
-use Rattle.network.proofs.Lengths.{sized}
+use Rattle.network.proofs.Bounds.{sized}
 use Rattle.network.proofs.Ranged.{Carried, Ranged, in-range-ranged}
 use Rattle.station.specs.Reacting.{Holds, reacts}
 use Rattle.station.specs.Replying.{Ready}

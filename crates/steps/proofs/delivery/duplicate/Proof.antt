@@ -8,7 +8,7 @@ use Rattle.model.proofs.Range.{Sized}
 use Rattle.model.proofs.Refusals.{duplicate-6, duplicate-limited}
 use Rattle.network.specs.View.{view}
 use Rattle.network.proofs.PacketLaws.{air-length}
-use Rattle.network.proofs.Lengths.{sized}
+use Rattle.network.proofs.Bounds.{sized}
 use Rattle.steps.proofs.CallLaws.{called-refused, called-accepted}
 use Rattle.steps.proofs.DeliveryLaws.{duplicate-full, duplicate-room, duplicate-done}
 use Rattle.steps.proofs.delivery.duplicate.Statement.{statement}

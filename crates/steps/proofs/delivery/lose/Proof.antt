@@ -7,7 +7,7 @@ use Rattle.model.proofs.Range.{Sized}
 use Rattle.model.proofs.Refusals.{lose-6, lose-accepted}
 use Rattle.network.specs.View.{view}
 use Rattle.network.proofs.PacketLaws.{air-length}
-use Rattle.network.proofs.Lengths.{sized}
+use Rattle.network.proofs.Bounds.{sized}
 use Rattle.network.proofs.Ranged.{in-range-ranged}
 use Rattle.steps.proofs.CallLaws.{called-refused, called-accepted}
 use Rattle.steps.proofs.delivery.lose.Statement.{statement}

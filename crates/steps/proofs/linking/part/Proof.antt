@@ -10,7 +10,7 @@ use Rattle.model.specs.Memory as model
 use Rattle.model.proofs.Range.{Sized}
 use Rattle.network.specs.declared.Air.{Air}
 use Rattle.network.specs.View.{view}
-use Rattle.network.proofs.Lengths.{sized}
+use Rattle.network.proofs.Bounds.{sized}
 use Rattle.network.proofs.Ranged.{Ranged, in-range-ranged}
 use Rattle.station.specs.Reacting.{sentBy}
 use Rattle.steps.proofs.CallLaws.{called-refused, called-accepted}

@@ -10,7 +10,7 @@ use Rattle.model.specs.Calls.{notStation, notPair}
 use Rattle.model.proofs.Range.{Sized}
 use Rattle.model.proofs.Refusals.{up-2, up-3, up-accepted}
 use Rattle.network.specs.View.{view}
-use Rattle.network.proofs.Lengths.{sized}
+use Rattle.network.proofs.Bounds.{sized}
 use Rattle.network.proofs.Ranged.{in-range-ranged}
 use Rattle.steps.proofs.CallLaws.{called-refused, called-accepted, pair-below}
 use Rattle.steps.proofs.LinkLaws.{link-place}

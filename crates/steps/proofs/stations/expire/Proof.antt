@@ -12,7 +12,7 @@ use Rattle.model.specs.Calls.{notStation, notPair}
 use Rattle.model.proofs.Range.{Sized}
 use Rattle.model.proofs.Refusals.{expire-2, expire-accepted}
 use Rattle.network.specs.View.{rowOf, view}
-use Rattle.network.proofs.Lengths.{sized}
+use Rattle.network.proofs.Bounds.{sized}
 use Rattle.network.proofs.Ranged.{in-range-ranged}
 use Rattle.steps.proofs.CallLaws.{called-refused, called-accepted, pair-below}
 use Rattle.steps.proofs.stations.expire.Statement.{statement}

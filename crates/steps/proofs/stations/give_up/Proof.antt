@@ -10,7 +10,7 @@ use Rattle.model.specs.Calls.{notStation}
 use Rattle.model.proofs.Range.{Sized}
 use Rattle.model.proofs.Refusals.{give-up-2, give-up-5, give-up-accepted}
 use Rattle.network.specs.View.{view}
-use Rattle.network.proofs.Lengths.{sized}
+use Rattle.network.proofs.Bounds.{sized}
 use Rattle.network.proofs.Ranged.{Ranged, in-range-ranged}
 use Rattle.steps.proofs.CallLaws.{called-refused, called-accepted}
 use Rattle.steps.proofs.stations.give_up.Statement.{statement}

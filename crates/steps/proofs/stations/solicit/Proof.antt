@@ -14,7 +14,7 @@ use Rattle.model.proofs.Range.{Sized}
 use Rattle.model.proofs.Refusals.{solicit-2, solicit-4, solicit-8, solicit-limited}
 use Rattle.network.specs.View.{labelOf, view}
 use Rattle.network.proofs.ViewLaws.{number-at}
-use Rattle.network.proofs.Lengths.{sized}
+use Rattle.network.proofs.Bounds.{sized}
 use Rattle.network.proofs.Ranged.{Ranged, in-range-ranged}
 use Rattle.steps.proofs.CallLaws.{called-refused, called-accepted, pair-below}
 use Rattle.steps.proofs.StationLaws.{around, solicit-full, solicit-room, solicit-done}

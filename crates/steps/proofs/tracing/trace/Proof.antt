@@ -10,7 +10,7 @@ use Rattle.model.proofs.Range.{Sized}
 use Rattle.model.proofs.Refusals.{pair-tells}
 use Rattle.model.proofs.Tracing.{trace-no-pair, trace-follows}
 use Rattle.network.specs.View.{view}
-use Rattle.network.proofs.Lengths.{sized}
+use Rattle.network.proofs.Bounds.{sized}
 use Rattle.network.proofs.Ranged.{Ranged, in-range-ranged}
 use Rattle.steps.proofs.tracing.trace.Statement.{statement}
 use Rattle.steps.proofs.tracing.trace.Tie as tie

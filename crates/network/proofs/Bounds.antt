@@ -1,6 +1,6 @@
--- The lengths of the arrays that a struct holds, from what is known of a value of its type (`good` of a parameter, at the parameter's place). A
--- field that moves changes this file alone.
-use Prim.Native.Nat.{ℕ}
+-- The lengths of the arrays and the bounds of the numbers that a struct holds, from what is known of a value of its type (`good` of a parameter,
+-- at the parameter's place). A field that moves changes this file alone.
+use Prim.Native.Nat.{ℕ, _^_, _<_}
 use mathlib.Core.Path.{_≡_, _∙_}
 use lib.ListN.{length, length-map}
 use denote.Laws.{Is}
@@ -9,10 +9,16 @@ use Rattle.base.proofs.Lists.{unmapped}
 use Rattle.base.proofs.Loops.{tabulate-length}
 use Rattle.model.specs.Memory.{rowLimit, airLimit}
 use Rattle.model.proofs.Range.{Sized}
+use Rattle.label.specs.declared.Label.{Label}
 use Rattle.network.specs.declared.Row.{Row}
+use Rattle.network.specs.declared.Packet.{Packet}
 use Rattle.network.specs.declared.Air.{Air}
 use Rattle.network.specs.declared.Memory.{Memory}
 use Rattle.network.specs.View.{rowOf, recordOf, labelOf, view}
+use Rattle.label.proofs.Label as label
+use Rattle.label.proofs.Label.Laws as label′
+use Rattle.network.proofs.Packet as packet
+use Rattle.network.proofs.Packet.Laws as packet′
 use Rattle.network.proofs.Row as row
 use Rattle.network.proofs.Row.Laws as row′
 use Rattle.network.proofs.Air as air
@@ -20,7 +26,13 @@ use Rattle.network.proofs.Air.Laws as air′
 use Rattle.network.proofs.Memory as memory
 use Rattle.network.proofs.Memory.Laws as memory′
 
--- That machine values stand for a row, an air, a memory.
+-- That machine values stand for a label, a packet, a row, an air, a memory.
+abbrev pub ValidLabel : Label → Type 0
+ValidLabel l = Is label.the-row l (vals label.the-type label′.the-laws l)
+
+abbrev pub ValidPacket : Packet → Type 0
+ValidPacket p = Is packet.the-row p (vals packet.the-type packet′.the-laws p)
+
 abbrev pub ValidRow : Row → Type 0
 ValidRow r = Is row.the-row r (vals row.the-type row′.the-laws r)
 
@@ -29,6 +41,26 @@ ValidAir a = Is air.the-row a (vals air.the-type air′.the-laws a)
 
 abbrev pub ValidMemory : Memory → Type 0
 ValidMemory m = Is memory.the-row m (vals memory.the-type memory′.the-laws m)
+
+pub record LabelBounds (l : Label) : Type 0 where
+  pub s-below : l .s .0 < 2 ^ 64
+  pub m-below : l .m < 2 ^ 32
+  pub d-below : l .d < 2 ^ 32
+
+pub label-bounds : (l : Label) → ValidLabel l → LabelBounds l
+label-bounds l valid = record { s-below = valid .1 .1 .0 .1 .1 .0 .1; m-below = valid .1 .1 .1 .0 .1; d-below = valid .1 .1 .1 .1 .0 .1 }
+
+pub record PacketBounds (p : Packet) : Type 0 where
+  pub label : LabelBounds (p .label)
+  pub number-below : p .number .0 < 2 ^ 32
+  pub mask-below : p .mask < 2 ^ 16
+
+pub packet-bounds : (p : Packet) → ValidPacket p → PacketBounds p
+packet-bounds p valid = let l = valid .1 .1 .0 .1 .1 in record {
+  label = record { s-below = l .0 .1 .1 .0 .1; m-below = l .1 .0 .1; d-below = l .1 .1 .0 .1 };
+  number-below = valid .1 .1 .1 .0 .1 .1 .0 .1;
+  mask-below = valid .1 .1 .1 .1 .0 .1;
+}
 
 pub record RowLengths (r : Row) : Type 0 where
   pub stations-length : length (r .stations) ≡ rowLimit

@@ -1,0 +1,31 @@
+-- What the console's functions give: two numbers in one, the answer in the lower 32 bits and a count in the upper.
+use Prim.Native.Nat.{ℕ, _+_, _*_, _/_, _%_}
+use lib.ListN.{length}
+use lib.Dec.{eqb}
+use Rattle.base.specs.Choice.{if_then_else_}
+use Rattle.base.specs.Results.{Result, refused, accepted, mapped}
+use Rattle.label.specs.Label.{label, Outcome, took, gave}
+use Rattle.script.specs.Script.{Script}
+
+abbrev pub packed : (answer count : ℕ) → ℕ
+packed answer count = answer + 4_294_967_296 * count
+
+abbrev pub answerOf : ℕ → ℕ
+answerOf r = r % 4_294_967_296
+
+abbrev pub countOf : ℕ → ℕ
+countOf r = r / 4_294_967_296
+
+-- A number told, or the number of the refusal.
+unfoldable pub telling : Result ℕ → ℕ
+telling (refused number) = packed number 0
+telling (accepted value) = packed 0 value
+
+-- What is told of a script that was read: the count is E + 65,536 · n.
+unfoldable pub tellingScript : Result Script → ℕ
+tellingScript result = telling (mapped (λ s. length (s .kinds) + 65_536 * s .n) result)
+
+-- What New label gives: a count of 0 and 01's number, or the label that is taken. Its denominator is the count, its numerator the lower half,
+-- and its s the advertised one.
+unfoldable pub outcomeIn : (s r : ℕ) → Outcome
+outcomeIn s r = if eqb (countOf r) 0 then gave (answerOf r) else took (label s (answerOf r) (countOf r))
