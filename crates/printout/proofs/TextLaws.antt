@@ -11,10 +11,11 @@ use native.Mathlib.Omega.{arith}
 use borrow.Author.Tests.{lt-ltb, le-ltb}
 use Rattle.base.proofs.Booleans.{choose, Trichotomy, less, equal, more, trichotomy}
 use Rattle.base.proofs.Lists.{flat-one}
-use Rattle.codec.proofs.ByteLaws.{sets-append, take-sets}
+use Rattle.codec.specs.Bytes.{over}
+use Rattle.codec.proofs.ByteLaws.{over-first, sets-over, sets-append}
 use Rattle.io.specs.Digits.{digits, Fewest}
 use Rattle.printout.specs.Text.{digitsOf, decimal, field}
-use Rattle.printout.specs.Contracts.{Puts}
+use Rattle.printout.specs.Contracts.{PutsAt}
 
 -- The fewest digits that hold a number below 10 ^ k are at most k, and they are its decimal text.
 pub fewest-within : (n r k : ℕ) → Fewest 10 1 n r → 0 < k → n < 10 ^ k → r ≤ k
@@ -92,27 +93,29 @@ module _ {A : Type 0} (f : A → List ℕ) where
   flat-take l i d h = rw (add-one, take-suc l i d h) (flat-one f (take i l) (getD l i d))
 
 -- Nothing put, one byte put, and a text put after another.
-pub puts-none : (before : List ℕ) (at : ℕ) → Puts before at [] at before
+pub puts-none : (before : List ℕ) (at : ℕ) → PutsAt before at [] at before
 puts-none before at = record { stands = refl; ends = omega arith }
 
-pub puts-one : (before : List ℕ) (at x : ℕ) → Puts before at (x ∷ []) (at + 1) (set before at x)
+pub puts-one : (before : List ℕ) (at x : ℕ) → PutsAt before at (x ∷ []) (at + 1) (set before at x)
 puts-one before at x = record { stands = refl; ends = refl }
 
 pub puts-append : {before middle after xs ys : List ℕ} {at end last : ℕ}
-    → Puts before at xs end middle → Puts middle end ys last after → Puts before at (xs ++ ys) last after
+    → PutsAt before at xs end middle → PutsAt middle end ys last after → PutsAt before at (xs ++ ys) last after
 puts-append {before} {middle} {after} {xs} {ys} {at} p q = record {
   stands = q .stands ∙ rw (p .stands, p .ends) (sets-append before at xs ys);
   ends = omega (arith, length-append xs ys);
 }
 
 -- The array keeps its length.
-pub puts-length : {before text after : List ℕ} {at end : ℕ} → Puts before at text end after → length after ≡ length before
+pub puts-length : {before text after : List ℕ} {at end : ℕ} → PutsAt before at text end after → length after ≡ length before
 puts-length {before} {text} {after} {at} p = ap length (p .stands) ∙ length-sets before at text
 
--- What is put at the start of an array that has room for it is the array's first part.
-pub puts-first : {before text after : List ℕ} {end : ℕ} → Puts before 0 text end after → end ≤ length before
-    → (take end after ≡ text) × (end ≤ length after) × (end ≡ length (take end after))
-puts-first {before} {text} {after} {end} p h =
-    let e : end ≡ length text = p .ends ∙ omega arith in
-    let first : take end after ≡ text = rw (e, p .stands) (take-sets before text (omega (arith, e, h))) in
-    (first, omega (arith, h, puts-length p), e ∙ sym (ap length first))
+-- What is put at the start of an array that has room for it stands before what is kept, and is counted.
+module _ {before text after : List ℕ} {end : ℕ} (p : PutsAt before 0 text end after) (h : end ≤ length before) where
+  pub puts-over : (after ≡ over text before) × (end ≡ length text)
+  puts-over =
+      let e : end ≡ length text = p .ends ∙ omega arith in
+      (p .stands ∙ sets-over before text (omega (arith, e, h)), e)
+
+  pub puts-counted : (end ≤ length after) × (end ≡ length (take end after))
+  puts-counted = let first = over-first text before after end (puts-over .0) (puts-over .1) in (first .0, puts-over .1 ∙ sym (ap length (first .1)))

@@ -6,6 +6,6 @@ use lib.ListN.{length}
 use lib.Seq.{sets}
 
 -- The text stands at its place, every other place is kept, and the result is the place after it.
-pub record Puts (before : List ℕ) (at : ℕ) (text : List ℕ) (end : ℕ) (after : List ℕ) : Type 0 where
+pub record PutsAt (before : List ℕ) (at : ℕ) (text : List ℕ) (end : ℕ) (after : List ℕ) : Type 0 where
   pub stands : after ≡ sets before at text
   pub ends : end ≡ at + length text

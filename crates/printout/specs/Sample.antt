@@ -1,18 +1,18 @@
 -- The example of 01, "Scripts and the printout", byte for byte.
-use Prim.Native.Nat.{ℕ}
+use Prim.Native.Nat.{ℕ, _*_}
 use Prim.Native.Char.{code}
 use Prim.Native.String.{String, [] as none, _∷_ as _before_}
 use mathlib.Core.Path.{_≡_, refl, ap, _∙_}
 use mathlib.Core.List.{List, [], _∷_, _++_, flatMap}
 use Rattle.base.specs.Lists.{allBelow}
-use Rattle.base.specs.Results.{accepted}
+use Rattle.base.specs.Results.{accepted, refuse_when_otherwise_, _andThen_}
 use Rattle.codec.specs.Bytes.{number}
 use Rattle.model.specs.Memory.{sizeInRange}
 use Rattle.model.specs.Calls.{notOpening}
-use Rattle.model.specs.Events.{usesOne, notEvent}
+use Rattle.model.specs.Events.{eventLimit, usesOne, notEvent, allEvents}
 use Rattle.model.specs.Printout.{Line, LabelLine, routeLines}
 use Rattle.model.specs.Sample.{kinds, operands, lines, routes, prints}
-use Rattle.script.specs.Script.{script, eventCount, decoded, notSized, allEvents, noRoom, reading}
+use Rattle.script.specs.Script.{script, eventCount, decoded, notSized, noRoom, parsing, reading}
 use Rattle.printout.specs.Text.{digitsOf, decimal, field, ended, eventText, labelText, rehearsalText}
 use Rattle.printout.specs.Printed.{textOf, printed}
 
@@ -42,8 +42,8 @@ text =
     ∷ "L 2 0 1 2 3 1"
     ∷ []
 
-reads : reading example 4_096 8_192 ≡ accepted (script 3 1 kinds operands)
-unfolding reading eventCount decoded notSized notOpening allEvents noRoom number example kinds operands sizeInRange notEvent usesOne allBelow
+reads : reading example eventLimit (2 * eventLimit) ≡ accepted (script 3 1 kinds operands)
+unfolding reading parsing _andThen_ refuse_when_otherwise_ eventCount decoded notSized notOpening allEvents noRoom number example kinds operands sizeInRange notEvent usesOne allBelow
 reads = refl
 
 pub prints-text : printed example ≡ flatMap (λ line. ended (codes line)) text

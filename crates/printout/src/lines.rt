@@ -10,7 +10,7 @@ ghost use Rattle.model.specs.Memory.{stations, memoryInRange, rowLimit};
 ghost use Rattle.model.specs.Printout.{line, labelLine, stationLines, labelLines};
 ghost use Rattle.network.specs.View.{rowOf, view};
 ghost use Rattle.printout.specs.Text.{refusalText, eventText, labelText};
-ghost use Rattle.printout.specs.Contracts.{Puts};
+ghost use Rattle.printout.specs.Contracts.{PutsAt};
 use crate::text::put_decimal;
 use crate::text::put_field;
 use crate::text::put_fields;
@@ -24,7 +24,7 @@ use network::places::place;
 // The line of a script turned down.
 pub fn put_refusal(out: &mut [u8], answer: u32) -> usize
     requires { ⌜ 64 ≤ length (now out) ⌝ }
-    ensures { λ r. ⌜ Puts (now (out .entry)) 0 (refusalText answer) r (now (out .exit)) ⌝ }
+    ensures { λ r. ⌜ PutsAt (now (out .entry)) 0 (refusalText answer) r (now (out .exit)) ⌝ }
     ensures { λ r. ⌜ r ≤ 64 ⌝ }
 {
     out[0] = b'R';
@@ -47,7 +47,7 @@ pub fn put_event_line(
     hops: u8,
 ) -> usize
     requires { ⌜ (at + 200 ≤ length (now out)) × (index < 10_000) ⌝ }
-    ensures { λ r. ⌜ Puts (now (out .entry)) at (eventText (line index kind a b answer sent air hops)) r (now (out .exit)) ⌝ }
+    ensures { λ r. ⌜ PutsAt (now (out .entry)) at (eventText (line index kind a b answer sent air hops)) r (now (out .exit)) ⌝ }
     ensures { λ r. ⌜ r ≤ at + 40 ⌝ }
 {
     let fields = [
@@ -68,7 +68,7 @@ pub fn put_event_line(
 // The line of a label and its row, of at most 69 bytes.
 pub fn put_label_line(out: &mut [u8], at: usize, i: u8, t: u8, label: Label, row: Row) -> usize
     requires { ⌜ (at + 200 ≤ length (now out)) × (row .count ≤ rowLimit) ⌝ }
-    ensures { λ r. ⌜ Puts (now (out .entry)) at (labelText (labelLine i t label (stations (rowOf row)))) r (now (out .exit)) ⌝ }
+    ensures { λ r. ⌜ PutsAt (now (out .entry)) at (labelText (labelLine i t label (stations (rowOf row)))) r (now (out .exit)) ⌝ }
     ensures { λ r. ⌜ r ≤ at + 69 ⌝ }
 {
     let s = label.s.0;
@@ -107,7 +107,7 @@ fn is_listed(i: u8, t: u8, label: Label) -> bool
 fn put_station_lines(out: &mut [u8], at: usize, memory: Memory, i: u8) -> usize
     requires { ⌜ (memoryInRange (view memory) ≡ true) × (i < memory .n) ⌝ }
     requires { ⌜ at + 69 * memory .n + 200 ≤ length (now out) ⌝ }
-    ensures { λ r. ⌜ Puts (now (out .entry)) at (flatMap labelText (stationLines (view memory) i)) r (now (out .exit)) ⌝ }
+    ensures { λ r. ⌜ PutsAt (now (out .entry)) at (flatMap labelText (stationLines (view memory) i)) r (now (out .exit)) ⌝ }
     ensures { λ r. ⌜ r ≤ at + 69 * memory .n ⌝ }
 {
     let n = memory.n;
@@ -130,7 +130,7 @@ fn put_station_lines(out: &mut [u8], at: usize, memory: Memory, i: u8) -> usize
 pub fn put_label_lines(out: &mut [u8], at: usize, memory: Memory) -> usize
     requires { ⌜ memoryInRange (view memory) ≡ true ⌝ }
     requires { ⌜ at + 18_000 ≤ length (now out) ⌝ }
-    ensures { λ r. ⌜ Puts (now (out .entry)) at (flatMap labelText (labelLines (view memory) (memory .n))) r (now (out .exit)) ⌝ }
+    ensures { λ r. ⌜ PutsAt (now (out .entry)) at (flatMap labelText (labelLines (view memory) (memory .n))) r (now (out .exit)) ⌝ }
     ensures { λ r. ⌜ r ≤ at + 17_664 ⌝ }
 {
     let n = memory.n;

@@ -1,28 +1,34 @@
 // A rehearsal: the events of a script from fresh memory, and what each did.
 ghost use mathlib.Core.Path.{_≡_};
 ghost use mathlib.Core.Bool.{false};
-ghost use Prim.Native.Nat.{_*_, _≤_};
+ghost use Prim.Native.Nat.{ℕ, _*_, _≤_, min};
+ghost use mathlib.Core.List.{List};
 ghost use lib.ListN.{length, take};
 ghost use Rattle.io.specs.Counts.{Counts};
 ghost use Rattle.model.specs.Calls.{notOpening};
+ghost use Rattle.model.specs.Events.{eventLimit};
 ghost use Rattle.printout.specs.Text.{rehearsalText};
-ghost use Rattle.printout.specs.Printed.{printed, RoutesLoopFree};
-ghost use Rattle.printout.specs.Contracts.{Puts};
+ghost use Rattle.printout.specs.Printed.{Prints, RoutesLoopFree};
+ghost use Rattle.printout.specs.Contracts.{PutsAt};
 use crate::lines::put_event_line;
 use crate::lines::put_label_lines;
 use crate::lines::put_refusal;
 use network::opening::fresh;
 use sandbox::events::event;
 use script::read;
+use validation::EVENT_LIMIT;
+
+// Room for every script, and one byte more: a longer one is turned down, whatever its other bytes.
+pub const INPUT_ROOM: usize = 12 + 3 * EVENT_LIMIT;
 
 // Room for every printout: lines of 40 bytes for 4,096 events and of 69 for 256 labels, and 200 bytes more for the line that is put.
 pub const ROOM: usize = 184320;
 
 // The lines of these events and of the labels after them.
 fn put_rehearsal(out: &mut [u8], n: u8, start: u64, kinds: &[u8], operands: &[u8]) -> usize
-    requires { ⌜ (notOpening n start ≡ false) × (length (now kinds) ≤ 4_096) × (length (now operands) ≡ 2 * length (now kinds)) ⌝ }
+    requires { ⌜ (notOpening n start ≡ false) × (length (now kinds) ≤ eventLimit) × (length (now operands) ≡ 2 * length (now kinds)) ⌝ }
     requires { ⌜ 184_320 ≤ length (now out) ⌝ }
-    ensures { λ r. ⌜ Puts (now (out .entry)) 0 (rehearsalText n start (now (kinds .entry)) (now (operands .entry))) r (now (out .exit)) ⌝ }
+    ensures { λ r. ⌜ PutsAt (now (out .entry)) 0 (rehearsalText n start (now (kinds .entry)) (now (operands .entry))) r (now (out .exit)) ⌝ }
     ensures { λ r. ⌜ r ≤ 184_320 ⌝ }
 {
     let mut memory = fresh(n, start);
@@ -52,14 +58,15 @@ fn put_rehearsal(out: &mut [u8], n: u8, start: u64, kinds: &[u8], operands: &[u8
     put_label_lines(out, end, memory)
 }
 
-// What a script prints, at the start of the lent array; the result is its length. No walk along the routes printed goes in a circle.
+// What a script prints, at the start of the lent array, whose places past it are kept; the result is its length. No walk along the
+// routes printed goes in a circle.
 pub fn rehearse(script: &[u8], out: &mut [u8; ROOM]) -> usize
-    ensures text { λ r. ⌜ take r (now (out .exit)) ≡ printed (now (script .entry)) ⌝ }
+    ensures text { λ r. ⌜ Prints (now (script .entry)) (now (out .entry)) r (now (out .exit)) ⌝ }
     ensures length { λ r. ⌜ Counts r (now (out .exit)) ⌝ }
     ensures loop_free { λ _. ⌜ RoutesLoopFree (now (script .entry)) ⌝ }
 {
-    let mut kinds = [0u8; 4096];
-    let mut operands = [0u8; 8192];
+    let mut kinds = [0u8; EVENT_LIMIT];
+    let mut operands = [0u8; 2 * EVENT_LIMIT];
     let found = read(script, &mut kinds, &mut operands);
     let answer = found.answer;
     if answer != 0 {
@@ -74,4 +81,26 @@ pub fn rehearse(script: &[u8], out: &mut [u8; ROOM]) -> usize
         &kinds[..events],
         &operands[..pairs],
     )
+}
+
+// The smaller of two numbers.
+fn least(a: usize, b: usize) -> usize
+    ensures { λ r. ⌜ r ≡ min a b ⌝ }
+{
+    if a <= b {
+        return a;
+    }
+    b
+}
+
+// What a whole input prints, from as many of its first bytes as the array holds: `count` of them stand there.
+pub fn rehearse_input(input: &[u8; INPUT_ROOM], count: usize, out: &mut [u8; ROOM]) -> usize
+    ensures text { λ r. ⌜ ((whole : List ℕ) → take count (now (input .entry)) ≡ take (length (now (input .entry))) whole
+        → Prints whole (now (out .entry)) r (now (out .exit))) ⌝ }
+    ensures length { λ r. ⌜ Counts r (now (out .exit)) ⌝ }
+    ensures loop_free { λ _. ⌜ ((whole : List ℕ) → RoutesLoopFree whole) ⌝ }
+{
+    let bytes: &[u8] = input;
+    let end = least(count, bytes.len());
+    rehearse(&bytes[..end], out)
 }

@@ -3,13 +3,13 @@ ghost use Prim.Native.Nat.{_+_, _*_, _≤_};
 ghost use mathlib.Core.List.{flatMap};
 ghost use lib.ListN.{length};
 ghost use Rattle.printout.specs.Text.{decimal, field};
-ghost use Rattle.printout.specs.Contracts.{Puts};
+ghost use Rattle.printout.specs.Contracts.{PutsAt};
 use codec::put_bytes;
 
 // A number's decimal digits.
 pub fn put_decimal(out: &mut [u8], at: usize, value: u64) -> usize
     requires { ⌜ at + 20 ≤ length (now out) ⌝ }
-    ensures { λ r. ⌜ Puts (now (out .entry)) at (decimal value) r (now (out .exit)) ⌝ }
+    ensures { λ r. ⌜ PutsAt (now (out .entry)) at (decimal value) r (now (out .exit)) ⌝ }
     ensures { λ r. ⌜ r ≤ at + 20 ⌝ }
 {
     let mut digits = [0u8; 20];
@@ -21,7 +21,7 @@ pub fn put_decimal(out: &mut [u8], at: usize, value: u64) -> usize
 // A space and a number.
 pub fn put_field(out: &mut [u8], at: usize, value: u64) -> usize
     requires { ⌜ at + 21 ≤ length (now out) ⌝ }
-    ensures { λ r. ⌜ Puts (now (out .entry)) at (field value) r (now (out .exit)) ⌝ }
+    ensures { λ r. ⌜ PutsAt (now (out .entry)) at (field value) r (now (out .exit)) ⌝ }
     ensures { λ r. ⌜ r ≤ at + 21 ⌝ }
 {
     out[at] = b' ';
@@ -31,7 +31,7 @@ pub fn put_field(out: &mut [u8], at: usize, value: u64) -> usize
 // A field for each number.
 pub fn put_fields(out: &mut [u8], at: usize, values: &[u64]) -> usize
     requires { ⌜ at + 21 * length (now values) ≤ length (now out) ⌝ }
-    ensures { λ r. ⌜ Puts (now (out .entry)) at (flatMap field (now (values .entry))) r (now (out .exit)) ⌝ }
+    ensures { λ r. ⌜ PutsAt (now (out .entry)) at (flatMap field (now (values .entry))) r (now (out .exit)) ⌝ }
     ensures { λ r. ⌜ r ≤ at + 21 * length (now (values .entry)) ⌝ }
 {
     let mut end = at;

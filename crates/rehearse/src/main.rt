@@ -2,15 +2,16 @@
 use libc::STDERR_FILENO;
 use libc::STDIN_FILENO;
 use libc::STDOUT_FILENO;
+use printout::rehearsal::INPUT_ROOM;
 use printout::rehearsal::ROOM;
-use printout::rehearsal::rehearse;
+use printout::rehearsal::rehearse_input;
 
-// It reads one byte more than the longest script has, so that a longer one is turned down as the whole of it would be.
+// It reads as many of the input's bytes as tell what the whole of it prints.
 fn main() {
-    let mut script = [0u8; 12300];
-    let length = io::read_full(STDIN_FILENO, &mut script);
+    let mut input = [0u8; INPUT_ROOM];
+    let count = io::read_full(STDIN_FILENO, &mut input);
     let mut out = [0u8; ROOM];
-    let end = rehearse(&script[..length], &mut out);
+    let end = rehearse_input(&input, count, &mut out);
     if !io::write_all(STDOUT_FILENO, &out[..end]) {
         io::write_all(
             STDERR_FILENO,

@@ -9,7 +9,7 @@ use Rattle.network.specs.View.{view}
 use Rattle.network.proofs.Bounds.{sized}
 use Rattle.network.proofs.Ranged.{Ranged, in-range-ranged}
 use Rattle.printout.specs.Text.{labelText}
-use Rattle.printout.specs.Contracts.{Puts}
+use Rattle.printout.specs.Contracts.{PutsAt}
 use Rattle.printout.proofs.TextLaws.{puts-none, puts-append, puts-length}
 use Rattle.printout.proofs.LineLaws.{lines-more}
 use Rattle.printout.proofs.lines.put_label_lines.Statement.{statement}
@@ -17,7 +17,7 @@ use Rattle.printout.proofs.lines.put_label_lines.Tie as tie
 
 abbrev Inv-loop : tie.InvT-loop
 Inv-loop out₀ at memory n end₀ i₀ out end i =
-    (i ≤ n) × Puts out₀ at (flatMap labelText (labelLines (view memory) i)) end out × (end ≤ at + 1_104 * i)
+    (i ≤ n) × PutsAt out₀ at (flatMap labelText (labelLines (view memory) i)) end out × (end ≤ at + 1_104 * i)
 
 abbrev μ-loop : tie.MeasureT-loop
 μ-loop out₀ at memory n end₀ i₀ out end i = n - i

@@ -10,14 +10,14 @@ use Rattle.model.specs.Printout.{isListed, stationLines}
 use Rattle.network.specs.View.{labelOf, view}
 use Rattle.network.proofs.Bounds.{sized}
 use Rattle.network.proofs.Ranged.{Ranged, in-range-ranged}
-use Rattle.printout.specs.Contracts.{Puts}
+use Rattle.printout.specs.Contracts.{PutsAt}
 use Rattle.printout.proofs.TextLaws.{puts-none, puts-append, puts-length}
 use Rattle.printout.proofs.LineLaws.{listed-at, line-at, textBelow, text-yes, text-no}
 use Rattle.printout.proofs.lines.put_station_lines.Statement.{statement}
 use Rattle.printout.proofs.lines.put_station_lines.Tie as tie
 
 abbrev Inv-loop : tie.InvT-loop
-Inv-loop out₀ at i memory n end₀ t₀ out end t = (t ≤ n) × Puts out₀ at (textBelow (view memory) i t) end out × (end ≤ at + 69 * t)
+Inv-loop out₀ at i memory n end₀ t₀ out end t = (t ≤ n) × PutsAt out₀ at (textBelow (view memory) i t) end out × (end ≤ at + 69 * t)
 
 abbrev μ-loop : tie.MeasureT-loop
 μ-loop out₀ at i memory n end₀ t₀ out end t = n - t

@@ -6,11 +6,11 @@ use lib.ListN.{length}
 use native.Mathlib.Omega.{arith}
 use borrow.Author.Needs.{needs}
 use Rattle.base.specs.Lists.{tabulate}
-use Rattle.model.specs.Events.{eventAt}
+use Rattle.model.specs.Events.{eventAt, eventLimit}
 use Rattle.model.proofs.Refusals.{opening-tells}
 use Rattle.network.specs.View.{view}
 use Rattle.sandbox.proofs.RunLaws.{Ran, ran-none, ran-more}
-use Rattle.printout.specs.Contracts.{Puts}
+use Rattle.printout.specs.Contracts.{PutsAt}
 use Rattle.printout.proofs.TextLaws.{puts-none, puts-append, puts-length}
 use Rattle.printout.proofs.RehearsalLaws.{textFirst, text-more, text-whole}
 use Rattle.printout.proofs.rehearsal.put_rehearsal.Statement.{statement}
@@ -18,7 +18,7 @@ use Rattle.printout.proofs.rehearsal.put_rehearsal.Tie as tie
 
 abbrev Inv-loop : tie.InvT-loop
 Inv-loop out₀ n start kinds operands memory₀ end₀ i₀ out memory end i =
-    (i ≤ length kinds) × Ran n start kinds operands i memory × Puts out₀ 0 (textFirst n start kinds operands i) end out × (end ≤ 40 * i)
+    (i ≤ length kinds) × Ran n start kinds operands i memory × PutsAt out₀ 0 (textFirst n start kinds operands i) end out × (end ≤ 40 * i)
 
 abbrev μ-loop : tie.MeasureT-loop
 μ-loop out₀ n start kinds operands memory₀ end₀ i₀ out memory end i = length kinds - i
@@ -28,7 +28,7 @@ abbrev first : tie.At-loop Inv-loop μ-loop → tie.Start Inv-loop μ-loop
 first c = c .before .before .before .before .before
 
 counted : (c : tie.At-loop Inv-loop μ-loop) → let args = first c .args in
-    (length (args .kinds .now) ≤ 4_096) × (length (args .operands .now) ≡ 2 * length (args .kinds .now)) × (184_320 ≤ length (args .out .now))
+    (length (args .kinds .now) ≤ eventLimit) × (length (args .operands .now) ≡ 2 * length (args .kinds .now)) × (184_320 ≤ length (args .out .now))
 counted c = (first c .pre .0 .1, first c .pre .0 .2, first c .pre .1)
 
 fresh-requires : tie.Need-fresh-requires Inv-loop μ-loop
@@ -97,7 +97,7 @@ returns c =
     let args = first at .args in
     let e : at .loop .i ≡ length (args .kinds .now) = omega arith in
     let ran = subst (λ i. Ran (args .n) (args .start) (args .kinds .now) (args .operands .now) i (at .loop .memory)) e (at .loop .inv .1) in
-    let put = subst (λ i. Puts (args .out .now) 0 (textFirst (args .n) (args .start) (args .kinds .now) (args .operands .now) i) (at .loop .end) (at .loop .out)) e (at .loop .inv .2) in
+    let put = subst (λ i. PutsAt (args .out .now) 0 (textFirst (args .n) (args .start) (args .kinds .now) (args .operands .now) i) (at .loop .end) (at .loop .out)) e (at .loop .inv .2) in
     let whole = text-whole (args .n) (args .start) (args .kinds .now) (args .operands .now) (at .loop .memory) ran in
     (rw (sym whole) (puts-append put (c .before .before .put-label-lines .ensures .0)), omega (arith, counted at))
 

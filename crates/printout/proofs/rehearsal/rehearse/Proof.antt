@@ -3,8 +3,8 @@ use mathlib.Core.Path.{sym, ap, _∙_}
 use Prim.Native.Nat.{_*_}
 use native.Mathlib.Omega.{arith}
 use borrow.Author.Needs.{needs}
-use Rattle.printout.proofs.TextLaws.{puts-first}
-use Rattle.printout.proofs.RehearsalLaws.{printed-refusal, Rehearsed, rehearsed, routes-loop-free}
+use Rattle.printout.proofs.TextLaws.{puts-counted}
+use Rattle.printout.proofs.RehearsalLaws.{prints, printed-refusal, Rehearsed, rehearsed, routes-loop-free}
 use Rattle.printout.proofs.rehearsal.rehearse.Statement.{statement}
 use Rattle.printout.proofs.rehearsal.rehearse.Tie as tie
 
@@ -31,8 +31,7 @@ returns : tie.Need-returns
 returns c =
     let read = c .before .before .before .before .before in
     let text = printed-refusal _ _ _ (read .read .result) (read .read .ensures .0) (c .before .before .if1 .taken) in
-    let put = puts-first (c .put-refusal .ensures .0) (search needs) in
-    (put .0 ∙ text, ((put .1, put .2), routes-loop-free _))
+    (prints _ (c .put-refusal .ensures .0) text (search needs), (puts-counted (c .put-refusal .ensures .0) (search needs), routes-loop-free _))
 
 mul-pairs : tie.Need-mul-pairs
 mul-pairs c = record { fits = omega (arith, past c .few) }
@@ -55,9 +54,10 @@ put-rehearsal-requires c κs =
     ((w .opens, omega (arith, w .few, w .kinds-long .1), w .operands-long .1 ∙ ap (λ k. 2 * k) (sym (w .kinds-long .1))), search needs)
 
 returns-2 : tie.Need-returns-2
-returns-2 c =
-    let put = puts-first (c .put-rehearsal .ensures .0) (search needs) in
-    (put .0 ∙ past (c .before .before .before .before) .text, ((put .1, put .2), routes-loop-free _))
+returns-2 c = (
+  prints _ (c .put-rehearsal .ensures .0) (past (c .before .before .before .before) .text) (search needs),
+  (puts-counted (c .put-rehearsal .ensures .0) (search needs), routes-loop-free _),
+)
 
 pub rehearse-spec : {M : Type 1} → statement M
 rehearse-spec =

@@ -6,14 +6,14 @@ use lib.Seq.{take-all}
 use native.Mathlib.Omega.{arith}
 use borrow.Author.Needs.{needs}
 use Rattle.printout.specs.Text.{field}
-use Rattle.printout.specs.Contracts.{Puts}
+use Rattle.printout.specs.Contracts.{PutsAt}
 use Rattle.printout.proofs.TextLaws.{flat-take, puts-none, puts-append, puts-length}
 use Rattle.printout.proofs.text.put_fields.Statement.{statement}
 use Rattle.printout.proofs.text.put_fields.Tie as tie
 
 abbrev Inv-loop : tie.InvT-loop
 Inv-loop out₀ at values end₀ i₀ out end i =
-    (i ≤ length values) × Puts out₀ at (flatMap field (take i values)) end out × (end ≤ at + 21 * i)
+    (i ≤ length values) × PutsAt out₀ at (flatMap field (take i values)) end out × (end ≤ at + 21 * i)
 
 abbrev μ-loop : tie.MeasureT-loop
 μ-loop out₀ at values end₀ i₀ out end i = length values - i

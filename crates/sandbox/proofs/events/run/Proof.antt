@@ -72,7 +72,7 @@ unfolding running
 returns-3 c =
     let past = c .before .before in (
       called-refused _ _ 11
-      (refuse-passes 10 _ _ (listed (past .before .before)) ∙ refuse-passes 1 _ _ (passed past) ∙ refuse-holds 11 _ _ (ap not (not-was-false _ _ (c .before .all-events .ensures) (c .if3 .taken)))),
+          (refuse-passes 10 _ _ (listed (past .before .before)) ∙ refuse-passes 1 _ _ (passed past) ∙ refuse-holds 11 _ _ (ap not (not-was-false _ _ (c .before .all-events .ensures) (c .if3 .taken)))),
       λ e. absurd (omega arith),
     )
 
