@@ -31,8 +31,8 @@ use layout::places::RECORDS_AT;
 use layout::places::ROWS_AT;
 use layout::places::SOUGHT_AT;
 use network::places::pair_place;
-use steps::stations::not_pair;
-use steps::stations::not_station;
+use validation::not_pair;
+use validation::not_station;
 
 // The number of stations.
 #[no_mangle]

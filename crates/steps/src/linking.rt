@@ -8,7 +8,6 @@ ghost use Rattle.model.specs.Calls.{Up, Down, limited, down, step};
 ghost use Rattle.network.specs.View.{view};
 ghost use Rattle.steps.specs.Called.{Called};
 use crate::Done;
-use crate::stations::not_pair;
 use network::AIR_LIMIT;
 use network::Memory;
 use network::packets::error;
@@ -18,6 +17,7 @@ use network::rows::take_out;
 use station::sending::copies;
 use station::sending::error_scope;
 use station::sending::transmit;
+use validation::not_pair;
 
 // Up: the link of a and b is up.
 pub fn up(mut memory: Memory, a: usize, b: usize) -> Done

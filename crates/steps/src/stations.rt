@@ -1,7 +1,6 @@
 // Solicit, Give up and Expire, on memory in range.
 ghost use mathlib.Core.Path.{_≡_};
-ghost use mathlib.Core.Bool.{true, _||_};
-ghost use lib.Dec.{leb, eqb};
+ghost use mathlib.Core.Bool.{true};
 ghost use Rattle.model.specs.Memory.{memoryInRange};
 ghost use Rattle.model.specs.Calls.{Solicit, GiveUp, Expire, step};
 ghost use Rattle.network.specs.View.{view};
@@ -15,20 +14,8 @@ use network::links::neighbour_count;
 use network::packets::broadcast;
 use network::packets::request;
 use network::places::place;
-
-// 2: whether a is no station.
-pub fn not_station(n: u8, a: usize) -> bool
-    ensures { λ r. ⌜ r ≡ leb n a ⌝ }
-{
-    (n as usize) <= a
-}
-
-// 2: whether a and b are not two stations.
-pub fn not_pair(n: u8, a: usize, b: usize) -> bool
-    ensures { λ r. ⌜ r ≡ leb n a || leb n b || eqb a b ⌝ }
-{
-    not_station(n, a) | not_station(n, b) | (a == b)
-}
+use validation::not_pair;
+use validation::not_station;
 
 // Solicit: a seeks a route to t.
 pub fn solicit(mut memory: Memory, a: usize, t: usize) -> Done

@@ -9,11 +9,11 @@ ghost use Rattle.base.specs.Choice.{if_then_else_};
 ghost use Rattle.model.specs.Memory.{Network, place, memoryInRange};
 ghost use Rattle.model.specs.Calls.{traced, hopLimit, follow, trace};
 ghost use Rattle.network.specs.View.{zeroRow, rowOf, view};
-use crate::stations::not_pair;
 use model::most_hops;
 use network::Memory;
 use network::Row;
 use network::places::place;
+use validation::not_pair;
 
 // What Trace gives: its answer and its hops.
 pub struct Traced {

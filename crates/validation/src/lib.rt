@@ -1,7 +1,9 @@
-// Tests of what a caller hands in that need no memory: n and start, the number of events, and what is an event.
+// Tests of what a caller hands in that need no memory: n and start, stations, the number of events, and what is an event.
 ghost use mathlib.Core.Path.{_≡_};
+ghost use mathlib.Core.Bool.{_||_};
 ghost use Prim.Native.Nat.{_*_, _≤_};
 ghost use lib.ListN.{length};
+ghost use lib.Dec.{leb, eqb};
 ghost use Rattle.model.specs.Memory.{sizeInRange};
 ghost use Rattle.model.specs.Calls.{notOpening};
 ghost use Rattle.model.specs.Events.{notEvent, notEvents, allEvents};
@@ -24,6 +26,20 @@ pub fn open_refused(n: usize, start: u64) -> bool
     ensures { λ r. ⌜ r ≡ notOpening n start ⌝ }
 {
     !size_in_range(n) | (start == 0)
+}
+
+// 2: whether a is no station.
+pub fn not_station(n: u8, a: usize) -> bool
+    ensures { λ r. ⌜ r ≡ leb n a ⌝ }
+{
+    (n as usize) <= a
+}
+
+// 2: whether a and b are not two stations.
+pub fn not_pair(n: u8, a: usize, b: usize) -> bool
+    ensures { λ r. ⌜ r ≡ leb n a || leb n b || eqb a b ⌝ }
+{
+    not_station(n, a) | not_station(n, b) | (a == b)
 }
 
 // 10: whether there are too many kinds, or the operands are not two for each.

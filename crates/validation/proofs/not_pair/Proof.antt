@@ -1,7 +1,7 @@
--- `stations::not_pair` meets its contract: the three tests.
+-- `validation::not_pair` meets its contract: the three tests.
 use borrow.Author.Needs.{needs}
-use Rattle.steps.proofs.stations.not_pair.Statement.{statement}
-use Rattle.steps.proofs.stations.not_pair.Tie as tie
+use Rattle.validation.proofs.not_pair.Statement.{statement}
+use Rattle.validation.proofs.not_pair.Tie as tie
 
 not-station-requires : tie.Need-not-station-requires
 not-station-requires c κs = search needs
