@@ -11,7 +11,7 @@ use Rattle.model.specs.Events.{eventLimit}
 use Rattle.model.proofs.EventLaws.{events-tell}
 use Rattle.script.specs.declared.Found.{Found}
 use Rattle.script.specs.declared.Written.{Written}
-use Rattle.script.specs.Script.{Script, eventCount, encoded, decoded, reading, writing}
+use Rattle.script.specs.Script.{Script, eventCount, encoded, reading, writing}
 use Rattle.script.specs.Contracts.{foundOf, Reads, writtenOf}
 use Rattle.script.proofs.ScriptLaws.{Positive, Parsed, sized-tell, kinds-length, reading-ends, Listed, writing-ends, events-length}
 use Rattle.console.specs.Packed.{packed, telling, tellingScript}

@@ -182,17 +182,17 @@ module _ (net : Network) (fits : NetworkFits net) (bytes rest : List ℕ) (e : b
 
   air-back : airOf (storedAir bytes airAt) ≡ net .air
   unfolding airOf storedAir tableAt
-  air-back = counted-back (net .air) (byteAt bytes airAt) airLimit (packetIn (tabulate 128 f)) zeroPacket count-back within past
+  air-back = counted-back (net .air) (byteAt bytes airAt) airLimit (packetIn (tabulate airLimit f)) zeroPacket count-back within past
     where
       f : ℕ → code.Packet
       f j = storedPacket bytes (packetsAt + 28 * j)
 
-      within : (k : ℕ) → k < airLimit → packetIn (tabulate 128 f) k ≡ getD (net .air) k zeroPacket
-      within k m = ap packetOf (tabulate-at 128 f k view.zeroPacket m) ∙ packets-back k m .0
+      within : (k : ℕ) → k < airLimit → packetIn (tabulate airLimit f) k ≡ getD (net .air) k zeroPacket
+      within k m = ap packetOf (tabulate-at airLimit f k view.zeroPacket m) ∙ packets-back k m .0
 
-      past : (k : ℕ) → airLimit ≤ k → packetIn (tabulate 128 f) k ≡ getD (net .air) k zeroPacket
+      past : (k : ℕ) → airLimit ≤ k → packetIn (tabulate airLimit f) k ≡ getD (net .air) k zeroPacket
       past k m =
-          ap packetOf (List·getD-eq-default (tabulate 128 f) view.zeroPacket (omega (arith, tabulate-length 128 f))) ∙ zero-packet ∙ sym (fits .air .past k m)
+          ap packetOf (List·getD-eq-default (tabulate airLimit f) view.zeroPacket (omega (arith, tabulate-length airLimit f))) ∙ zero-packet ∙ sym (fits .air .past k m)
 
   pub network-back : storedNetwork bytes ≡ net
   unfolding storedNetwork storedMemory view

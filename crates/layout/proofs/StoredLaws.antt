@@ -10,7 +10,7 @@ use Rattle.base.proofs.Loops.{tabulate-at, tabulate-length, map-tabulate}
 use Rattle.label.specs.declared.Label.{Label}
 use Rattle.codec.specs.Bytes.{byteAt, numberAt}
 use Rattle.codec.specs.Tables.{tableAt}
-use Rattle.model.specs.Memory.{zeroLabel, zeroRecord, zeroPacket}
+use Rattle.model.specs.Memory.{zeroLabel, zeroRecord, zeroPacket, airLimit}
 use Rattle.network.specs.declared.RequestNumber.{RequestNumber}
 use Rattle.network.specs.View as view
 use Rattle.network.specs.View.{rowOf, recordOf, packetOf, airOf, labelOf, view}
@@ -68,10 +68,10 @@ module _ (bytes : List ℕ) where
   -- The air has as many packets as it counts.
   pub count-stored : length (storedNetwork bytes .air) ≡ byteAt bytes airAt
   unfolding storedNetwork storedMemory view airOf storedAir
-  count-stored = tabulate-length (byteAt bytes airAt) (packetIn (tableAt storedPacket 28 128 bytes packetsAt))
+  count-stored = tabulate-length (byteAt bytes airAt) (packetIn (tableAt storedPacket 28 airLimit bytes packetsAt))
 
-  pub packet-stored : (k : ℕ) → k < byteAt bytes airAt → k < 128 → getD (storedNetwork bytes .air) k zeroPacket ≡ packetOf (storedPacket bytes (packetsAt + 28 * k))
+  pub packet-stored : (k : ℕ) → k < byteAt bytes airAt → k < airLimit → getD (storedNetwork bytes .air) k zeroPacket ≡ packetOf (storedPacket bytes (packetsAt + 28 * k))
   unfolding storedNetwork storedMemory view airOf storedAir tableAt
   packet-stored k h m =
-      tabulate-at (byteAt bytes airAt) (packetIn (tabulate 128 (λ j. storedPacket bytes (packetsAt + 28 * j)))) k zeroPacket h
-      ∙ ap packetOf (tabulate-at 128 (λ j. storedPacket bytes (packetsAt + 28 * j)) k view.zeroPacket m)
+      tabulate-at (byteAt bytes airAt) (packetIn (tabulate airLimit (λ j. storedPacket bytes (packetsAt + 28 * j)))) k zeroPacket h
+      ∙ ap packetOf (tabulate-at airLimit (λ j. storedPacket bytes (packetsAt + 28 * j)) k view.zeroPacket m)

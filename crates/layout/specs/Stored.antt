@@ -7,7 +7,7 @@ use Rattle.label.specs.declared.Label.{Label}
 use Rattle.label.specs.Label.{label}
 use Rattle.codec.specs.Bytes.{byteAt, numberAt}
 use Rattle.codec.specs.Tables.{tableAt}
-use Rattle.model.specs.Memory.{Network}
+use Rattle.model.specs.Memory.{Network, airLimit, rowLimit}
 use Rattle.network.specs.declared.RequestNumber.{RequestNumber}
 use Rattle.network.specs.declared.Row.{Row}
 use Rattle.network.specs.declared.Record.{Record}
@@ -31,8 +31,8 @@ storedLabel bytes at = label (numberAt 8 bytes at) (numberAt 4 bytes (at + 8)) (
 -- The count, and four entries of a station and its label, 17 bytes each.
 unfoldable pub storedRow : List ℕ → ℕ → Row
 storedRow bytes at = record {
-  labels = tableAt storedLabel 17 4 bytes (at + 2);
-  stations = tableAt byteAt 17 4 bytes (at + 1);
+  labels = tableAt storedLabel 17 rowLimit bytes (at + 2);
+  stations = tableAt byteAt 17 rowLimit bytes (at + 1);
   count = byteAt bytes at;
 }
 
@@ -62,7 +62,7 @@ storedPacket bytes at = record {
 
 -- The count, and 128 packets.
 unfoldable pub storedAir : List ℕ → ℕ → Air
-storedAir bytes at = record { packets = tableAt storedPacket 28 128 bytes (at + 1); count = byteAt bytes at }
+storedAir bytes at = record { packets = tableAt storedPacket 28 airLimit bytes (at + 1); count = byteAt bytes at }
 
 unfoldable pub storedMemory : List ℕ → Memory
 storedMemory bytes = record {

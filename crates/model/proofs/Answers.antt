@@ -1,9 +1,8 @@
 -- The answer tells how a call ended: refusals are numbers below 100, and no accepted call answers with one of these.
 use Prim.Native.Nat.{ℕ, _+_, _^_}
-use mathlib.Core.Path.{_≡_, refl, subst}
+use mathlib.Core.Path.{_≡_, refl}
 use mathlib.Core.Bool.{Bool, true, false, not, _&&_, _||_}
 use lib.Dec.{ltb, leb, eqb}
-use native.Mathlib.Omega.{arith}
 use Rattle.base.proofs.Booleans.{choose}
 use Rattle.base.specs.Numbers.{maxU32}
 use Rattle.base.specs.Results.{Result, refused, accepted, refuse_when_otherwise_, isRefusal}

@@ -18,7 +18,7 @@ use Rattle.label.specs.declared.Label.{Label}
 use Rattle.label.specs.Label.{inRange, _≻_, _⪰_}
 use Rattle.label.proofs.Order.{≻-irreflexive, ⪰-transitive}
 use Rattle.model.specs.Memory.{Successor, Row, Record, Body, request, reply, error, other, Packet, Network}
-use Rattle.model.specs.Memory.{place, zeroLabel, zeroRecord, labelIn, rowIn, recordIn, linkIn, stations}
+use Rattle.model.specs.Memory.{place, zeroLabel, zeroRecord, labelIn, rowIn, recordIn, linkIn, stations, rowLimit}
 use Rattle.model.specs.Memory.{setLabels, setRows, setRecords, setLinks, setNumbers, setSoughts, setActives, setAir}
 use Rattle.model.proofs.Rows.{keep-distinct}
 
@@ -41,7 +41,7 @@ pub record SuccessorOk (Reachable : Type 0) (n : ℕ) (L : List Label) (K : List
 pub record CellOk (Reachable : Type 0) (n : ℕ) (L : List Label) (K : List Bool) (i t : ℕ) (l : Label) (r : Row) : Type 0 where
   pub ranged : inRange l ≡ true
   pub own : i ≡ t → (l .m ≡ 0) × (l .d ≡ 1) × (r ≡ [])
-  pub short : length r ≤ 4
+  pub short : length r ≤ rowLimit
   pub once : distinct (stations r) ≡ true
   pub each : (e : Successor) → List·Memᴰ e r → SuccessorOk Reachable n L K i t l e
 

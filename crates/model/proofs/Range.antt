@@ -14,7 +14,7 @@ use Rattle.base.proofs.Lists.{all-below, all-below-at, all-in, all-in-at, empty
 use Rattle.label.specs.declared.Label.{Label}
 use Rattle.label.specs.Label.{inRange}
 use Rattle.model.specs.Memory.{Successor, Row, Record, Body, request, reply, error, other, Packet, Network}
-use Rattle.model.specs.Memory.{labelAt, rowAt, recordAt, soughtAt, names, stations, airLimit}
+use Rattle.model.specs.Memory.{labelAt, rowAt, recordAt, soughtAt, names, stations, airLimit, rowLimit}
 use Rattle.model.specs.Memory.{successorInRange, rowInRange, recordInRange, ownInRange, cellInRange, placeInRange, stationInRange}
 use Rattle.model.specs.Memory.{headInRange, bodyInRange, packetInRange, airInRange, sizeInRange, memoryInRange}
 use Rattle.model.proofs.Invariant.{SuccessorOk, CellOk, HeadOk, BodyOk, PacketOk, RecordOk, WellFormed}
@@ -42,7 +42,7 @@ module _ {Reachable : Type 0} {n : ℕ} {L : List Label} {K : List Bool} {i t : 
   row-passes : (r : Row) → CellOk Reachable n L K i t l r → rowInRange n i r ≡ true
   unfolding rowInRange
   row-passes r c =
-      passes (passes (le-leb (length r) 4 (c .short)) (c .once)) (all-in (successorInRange n i) r (λ e m. successor-passes e (c .each e m)))
+      passes (passes (le-leb (length r) rowLimit (c .short)) (c .once)) (all-in (successorInRange n i) r (λ e m. successor-passes e (c .each e m)))
 
 record-passes : {n : ℕ} (r : Record) → RecordOk n r → recordInRange n r ≡ true
 unfolding recordInRange

@@ -18,7 +18,7 @@ use Rattle.base.proofs.Lists.{all-below-at, none-in-at, keep-mem, mem-tail, len
 use Rattle.base.proofs.Lists.{distinct-cons, distinct-first, distinct-rest, distinct-tail, distinct-last}
 use Rattle.label.specs.declared.Label.{Label}
 use Rattle.label.specs.Label.{_≻_}
-use Rattle.model.specs.Memory.{Successor, Row, place, rowIn, names, stations, without, under, replace, withRoom, put}
+use Rattle.model.specs.Memory.{Successor, Row, place, rowIn, names, stations, without, under, replace, withRoom, put, rowLimit}
 use Rattle.model.specs.Calls.{takeOut, empties, emptied, everyDestination, bit}
 
 station-mem : (r : Row) {e : Successor} → List·Memᴰ e r → List·Memᴰ (e .station) (stations r)
@@ -69,7 +69,7 @@ module _ (r : Row) where
   unfolding withRoom
   room-either P h k = choose P (ltb (length r) 4) (λ e. h) (λ e. k)
 
-  pub room-same : length r < 4 → withRoom r ≡ r
+  pub room-same : length r < rowLimit → withRoom r ≡ r
   unfolding withRoom
   room-same h = rw (lt-ltb (length r) 4 h)
 
@@ -77,7 +77,7 @@ module _ (r : Row) where
   unfolding withRoom
   room-full h = rw (le-ltb (length r) 4 h)
 
-  pub room-length : length r ≤ 4 → length (withRoom r) ≤ 3
+  pub room-length : length r ≤ rowLimit → length (withRoom r) ≤ 3
   unfolding withRoom
   room-length h =
       choose (λ (z : Row). length z ≤ 3) (ltb (length r) 4) (λ q. omega (arith, ltb-true)) (λ q. length-tail r 3 h)
@@ -145,10 +145,10 @@ module _ (e : Successor) where
         (λ k. inr (room-either r (λ z. List·Memᴰ x z → List·Memᴰ x r) (λ j. j) (mem-tail r) k))
         (λ k. inl (List·Memᴰ·eq-of-singleton k)))
 
-    pub put-length : length r ≤ 4 → length (put e r) ≤ 4
+    pub put-length : length r ≤ rowLimit → length (put e r) ≤ rowLimit
     unfolding put
     put-length h =
-        choose (λ (z : Row). length z ≤ 4) (someIn (names (e .station)) r) {a = replace e r} {b = withRoom r ++ (e ∷ [])}
+        choose (λ (z : Row). length z ≤ rowLimit) (someIn (names (e .station)) r) {a = replace e r} {b = withRoom r ++ (e ∷ [])}
         (λ q. omega (arith, replace-length r))
         (λ q. simp length-append (omega (arith, room-length r h)))
 

@@ -1,6 +1,6 @@
 -- Every call keeps the invariant, and so does every list of calls. After an accepted call memory is in range.
 use Prim.Native.Nat.{ℕ, _≤_, _<_}
-use mathlib.Core.Path.{_≡_, refl, subst}
+use mathlib.Core.Path.{_≡_, subst}
 use mathlib.Core.Bool.{Bool, true, false, not}
 use mathlib.Core.List.{List, [], _∷_}
 use lib.ListN.{length, set, length-append, length-take, length-drop}

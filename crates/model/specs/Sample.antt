@@ -14,7 +14,7 @@ use Rattle.model.specs.Calls.{after, limited, notStation, notPair, notPa
 use Rattle.model.specs.Calls.{send, sending, neighbours, copies, solicit, removePacket, receive, deliver}
 use Rattle.model.specs.Calls.{recorded, markPassed, replyTo, resets, atDestination, canReply, onwardLabel, onwardReset, onward, engage, onRequest}
 use Rattle.model.specs.Calls.{matches, cachedAt, adopt, settle, passesOn, passOn, onOutcome, onReply, nextOf, follow, trace}
-use Rattle.model.specs.Events.{usesOne, notEvent, callOf, eventOf, eventAt, callsIn, afterFirst, noEventAnswer}
+use Rattle.model.specs.Events.{usesOne, notEvent, callOf, eventOf, eventAt, callsIn, afterFirst}
 use Rattle.model.specs.Printout.{Line, line, resultLine, lineOf, LabelLine, labelLine, isListed, labelLineAt, stationLines, labelLines, lineAt, eventLines, routeLines}
 
 -- "03 0900 0100000000000000 010103060607060609 0001 0102 0200 0000 0000 0000 0000 0000 0200".

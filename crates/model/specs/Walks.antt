@@ -38,7 +38,8 @@ TracersWalk net a t (b ∷ w) = (a ≢ t) × (rowAt net a t ≢ []) × (b ≡ ne
 
 -- What demand 3 asks of the walks from a for t, and of what the tracer told of its own.
 pub record WalksEnd (net : Network) (a t : ℕ) (told : Traced) : Type 0 where
-  -- "The rival has any walk": "each hop .. goes to a strictly lower label, no station is met twice, the walk ends within n − 1 hops".
+  -- "The rival has any walk": "Each hop goes to a strictly lower label for that destination, no station is met twice, and the walk ends within one
+  -- hop fewer than there are stations then."
   pub lower : (w : List ℕ) → Walk net a t w → GoesLower net a t w
   pub once : (w : List ℕ) → Walk net a t w → distinct (a ∷ w) ≡ true
   pub within : (w : List ℕ) → Walk net a t w → hopsOf (a ∷ w) ≤ net .n - 1
@@ -47,7 +48,8 @@ pub record WalksEnd (net : Network) (a t : ℕ) (told : Traced) : Type 0 where
   pub tracers : TracersWalk net a t path
   pub only-path : (w : List ℕ) → TracersWalk net a t w → w ≡ path
   pub walk : Walk net a t path
-  -- "the tracer answers 131 or 132 and nothing else, exactly as its walk ends, and its hop count is true".
+  -- "The tracer answers 131 exactly when its walk ends at the destination, and 132 exactly when it ends at another station, whose row is empty; it
+  -- answers nothing else. The hop count in the tracer's result equals the hops of 01's walk."
   pub arrives : (told .answer ≡ 131) ↔ (endOf a path ≡ t)
   pub stops : (told .answer ≡ 132) ↔ ((endOf a path ≢ t) × (rowAt net (endOf a path) t ≡ []))
   pub answers : (told .answer ≡ 131) ⊎ (told .answer ≡ 132)

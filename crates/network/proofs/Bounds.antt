@@ -1,6 +1,6 @@
 -- The lengths of the arrays and the bounds of the numbers that a struct holds, from what is known of a value of its type (`good` of a parameter,
 -- at the parameter's place). A field that moves changes this file alone.
-use Prim.Native.Nat.{ℕ, _^_, _<_}
+use Prim.Native.Nat.{_^_, _<_}
 use mathlib.Core.Path.{_≡_, _∙_}
 use lib.ListN.{length, length-map}
 use denote.Laws.{Is}

@@ -42,6 +42,7 @@ use denote.Struct.Steps.{spelt}
 use denote.Struct.Laws.{vals, tells, makes, lawful, owes, owed}
 use borrow.Struct.Items.{array-same}
 use borrow.Struct.Lend.{kept-field, record-apart-as, record-fill-as}
+use Rattle.model.specs.Memory.{airLimit}
 use Rattle.network.specs.View.{zeroPacket}
 use Rattle.network.specs.declared.Packet.{Packet}
 use Rattle.network.specs.declared.Air.{Air}
@@ -168,8 +169,8 @@ module _ {M : Type 1} {𝓤 : URA M} {H : Heap 𝓤} {A : Atoms 𝓤} {K : Type 
 
 -- An array of packets in memory is the array of their tuples.
 same : (l : List Packet) (b o : ℕ)
-    → partAt (Array packet.the-row 128) fullShare l b o ≡ partAt (Array (packet.the-field .row) 128) fullShare (map (packet.the-type .to) l) b o
-same = array-same (packet.the-field .row) Packet (packet.the-type .to) (packet.the-type .to-one) 128 fullShare
+    → partAt (Array packet.the-row airLimit) fullShare l b o ≡ partAt (Array (packet.the-field .row) airLimit) fullShare (map (packet.the-type .to) l) b o
+same = array-same (packet.the-field .row) Packet (packet.the-type .to) (packet.the-type .to-one) airLimit fullShare
 
 -- The air a in a local, at block b: its array of packets is lent for the lifetime κ, and comes back.
 module _ {M : Type 1} (𝓤 : URA M) (H : Heap 𝓤) (A : Atoms 𝓤) (b : ℕ) (κ : Lft) (a : Air) where
@@ -183,16 +184,16 @@ module _ {M : Type 1} (𝓤 : URA M) (H : Heap 𝓤) (A : Atoms 𝓤) (b : ℕ) 
   abbrev Lent : GName → Item 𝓤
   Lent γ = ‵ (Slice b 0 γ κ (a .packets) (a .packets)) ⊛ Invariant γ
 
-module _ {M : Type 1} (𝓤 : URA M) (H : Heap 𝓤) (A : Atoms 𝓤) (W : Given 𝓤 H A) (b : ℕ) (κ : Lft) (a : Air) (long : length (a .packets) ≡ 128) where
-  array-out : ent 𝓤 (sem 𝓤 H A (mem air.the-row .lies a b 0)) (sep 𝓤 (sem 𝓤 H A (partAt (Array packet.the-row 128) fullShare (a .packets) b 0)) (mean 𝓤 H A (Rest 𝓤 H A b κ a)))
+module _ {M : Type 1} (𝓤 : URA M) (H : Heap 𝓤) (A : Atoms 𝓤) (W : Given 𝓤 H A) (b : ℕ) (κ : Lft) (a : Air) (long : length (a .packets) ≡ airLimit) where
+  array-out : ent 𝓤 (sem 𝓤 H A (mem air.the-row .lies a b 0)) (sep 𝓤 (sem 𝓤 H A (partAt (Array packet.the-row airLimit) fullShare (a .packets) b 0)) (mean 𝓤 H A (Rest 𝓤 H A b κ a)))
   array-out =
-      record-apart-as air.the-type air′.the-laws 0 0 (Array packet.the-row 128) (λ l. l) (λ l. l) same (λ l b o. sym (same l b o))
+      record-apart-as air.the-type air′.the-laws 0 0 (Array packet.the-row airLimit) (λ l. l) (λ l. l) same (λ l b o. sym (same l b o))
       (air.struct .as-values) (air.struct .Ghost) (air.struct .make) (λ v. tt) (λ x. refl) (λ v g. refl) 𝓤 H A W refl refl a b 0
 
   array-in : (l : List Packet)
-      → ent 𝓤 (sep 𝓤 (sem 𝓤 H A (partAt (Array packet.the-row 128) fullShare l b 0)) (mean 𝓤 H A (Rest 𝓤 H A b κ a))) (sem 𝓤 H A (mem air.the-row .lies (air-of l (a .count)) b 0))
+      → ent 𝓤 (sep 𝓤 (sem 𝓤 H A (partAt (Array packet.the-row airLimit) fullShare l b 0)) (mean 𝓤 H A (Rest 𝓤 H A b κ a))) (sem 𝓤 H A (mem air.the-row .lies (air-of l (a .count)) b 0))
   array-in l =
-      record-fill-as air.the-type air′.the-laws 0 0 (Array packet.the-row 128) (λ l. l) (λ l. l) same (λ l b o. sym (same l b o))
+      record-fill-as air.the-type air′.the-laws 0 0 (Array packet.the-row airLimit) (λ l. l) (λ l. l) same (λ l b o. sym (same l b o))
       (air.struct .as-values) (air.struct .Ghost) (air.struct .make) (λ v. tt) (λ x. refl) (λ v g. refl) refl M 𝓤 H A W a l b 0
 
   lends : ent 𝓤 (mean 𝓤 H A (Whole b a)) (H .⇛ (ex 𝓤 (λ (γ : GName). mean 𝓤 H A (Lent 𝓤 H A b κ a γ))))
@@ -202,8 +203,8 @@ module _ {M : Type 1} (𝓤 : URA M) (H : Heap 𝓤) (A : Atoms 𝓤) (W : Given
       use1 W (‵ (cellAt fullShare (air.the-row .mir) (air-vals a) b 0)) (W .laws .at-raw fullShare air′.mir b 0 (only (air-vals a))) $ fjoin ! $
       fpack ! (List Val) (λ vs. fsep (cellAt fullShare (air.the-row .mir) vs b 0) (air.the-row .own a vs)) (air-vals a) $
       -- [the air]
-      use1 W (‵ (partAt (Array packet.the-row 128) fullShare (a .packets) b 0) ⊛ Rest 𝓤 H A b κ a) array-out $ split ! $
-      use1 W (‵ (arr-parts (shares packet.the-row) 128 .part fullShare (a .packets) b 0)) (array-apart 𝓤 H A W packet.the-row fullShare tt 128 (a .packets) b 0) $ fsplit ! $ drop ! $
+      use1 W (‵ (partAt (Array packet.the-row airLimit) fullShare (a .packets) b 0) ⊛ Rest 𝓤 H A b κ a) array-out $ split ! $
+      use1 W (‵ (arr-parts (shares packet.the-row) airLimit .part fullShare (a .packets) b 0)) (array-apart 𝓤 H A W packet.the-row fullShare tt airLimit (a .packets) b 0) $ fsplit ! $ drop ! $
       -- [the packets; the rest]
       use1 W (‵ (cells (mem packet.the-row) (a .packets) b 0)) (whole-in 𝓤 H A W packet.the-row (a .packets) b 0) $
       use1 W (later (some (λ (γ : GName). ‵ (Slice b 0 γ κ (a .packets) (a .packets)) ⊛ ‵ (flent κ (Held packet.the-row (length (a .packets)) b 0 γ)))))
@@ -219,8 +220,8 @@ module _ {M : Type 1} (𝓤 : URA M) (H : Heap 𝓤) (A : Atoms 𝓤) (W : Given
       use3 W (later (‵ (Arr (mem packet.the-row) (length (a .packets)) .lies l b 0))) (slice-back 𝓤 H A W packet.the-row κ γ l (length (a .packets)) b 0) $ await ! tt $
       rewrite ! 0 (λ (n : ℕ). ‵ (Arr (mem packet.the-row) n .lies l b 0)) long refl $ fsplit ! $ feqL ! (λ e.
       -- [the packets l; the rest]
-      use1 W (‵ (packets-at b 0 l)) (whole-out 𝓤 H A W packet.the-row l b 0) $ feqI ! ℕ _ 128 e $ fjoin ! $
-      use1 W (‵ (partAt (Array packet.the-row 128) fullShare l b 0)) (array-whole 𝓤 H A W packet.the-row fullShare 128 l b 0) $
+      use1 W (‵ (packets-at b 0 l)) (whole-out 𝓤 H A W packet.the-row l b 0) $ feqI ! ℕ _ airLimit e $ fjoin ! $
+      use1 W (‵ (partAt (Array packet.the-row airLimit) fullShare l b 0)) (array-whole 𝓤 H A W packet.the-row fullShare airLimit l b 0) $
       use2 W (‵ (mem air.the-row .lies next b 0)) (array-in l) $ fpick ! (λ vs. fsplit ! $
       -- [the air, at some machine values; what it owns]
       spelt ! air.the-row (Is air.the-row) (shows 𝓤 H A air.the-row) air-vals (tells air.the-type air′.the-laws) fullShare next vs b 0 $
@@ -264,7 +265,7 @@ module _ {M : Type 1} (𝓤 : URA M) (H : Heap 𝓤) (A : Atoms 𝓤) (W : Given
 -- The array of a local air is lent to such a call: what the call takes (x at the lifetime ν and the name γ) and leaves is shown, and the air comes back with m.
 module _ {M : Type 1} {𝓤 : URA M} {H : Heap 𝓤} {A : Atoms 𝓤} {K : Type 0} {W : Given 𝓤 H A} {Γ : List (Item 𝓤)} {E : Env 𝓤 H} {C : Calls 𝓤 H} {Λ : Loops 𝓤 H} {Q : Post 𝓤 H} where
   pub calls-lent : K → FmC 𝓤 H (W .laws) C → {f : Name} {xs : List Operand} {rest : Body} (c : Contract 𝓤) → Triple 𝓤 (C f) c
-      → (b : ℕ) (a : Air) (long : length (a .packets) ≡ 128) (m : List Packet) (x : ℕ → GName → c .Ghost)
+      → (b : ℕ) (a : Air) (long : length (a .packets) ≡ airLimit) (m : List Packet) (x : ℕ → GName → c .Ghost)
       → ((ν : ℕ) (γ : GName) → ent 𝓤 (⋆ 𝓤 H A (‵ (flft (ν ∷ []) fullShare) ∷ ‵ (Slice b 0 γ (ν ∷ []) (a .packets) (a .packets)) ∷ [])) (c .pre (x ν γ)))
       → ((ν : ℕ) (γ : GName) (w : Val) → ent 𝓤 (c .post (x ν γ) w) (H .⇛ (ex 𝓤 (λ (l : List Packet). mean 𝓤 H A (Left 𝓤 H A W (ν ∷ []) γ w m l)))))
       → ((ν : ℕ) (γ : GName) → Opds K W (raw (c .pre (x ν γ)) ∷ Invariant 𝓤 H A b (ν ∷ []) a γ ∷ Γ) E xs (c .args (x ν γ)))

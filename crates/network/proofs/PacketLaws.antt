@@ -8,6 +8,7 @@ use lib.Seq.{getD-set-same, getD-set-other}
 use native.Mathlib.Omega.{arith}
 use Rattle.base.specs.Lists.{tabulate, removed}
 use Rattle.base.proofs.Loops.{tabulate-length, tabulate-at, tabulate-more, tabulate-same, tabulate-removed}
+use Rattle.model.specs.Memory.{airLimit}
 use Rattle.model.specs.Memory as model
 use Rattle.model.specs.Calls.{between}
 use Rattle.network.specs.declared.Packet.{Packet}
@@ -34,7 +35,7 @@ apart a b p = not (between a b p)
 
 -- The packets below a count, in an array of 128, read as a list.
 pub record Held (l : List model.Packet) (packets : List Packet) (count : ℕ) : Type 0 where
-  pub room : length packets ≡ 128
+  pub room : length packets ≡ airLimit
   pub list : tabulate count (packetIn packets) ≡ l
 
 module _ (l : List model.Packet) (packets : List Packet) (count : ℕ) (h : Held l packets count) where
@@ -42,7 +43,7 @@ module _ (l : List model.Packet) (packets : List Packet) (count : ℕ) (h : Held
   held-count = ap length (sym (h .list)) ∙ tabulate-length count (packetIn packets)
 
   -- A packet written at the count is one more.
-  pub held-more : (p : Packet) → count < 128 → Held (l ++ (packetOf p ∷ [])) (set packets count p) (count + 1)
+  pub held-more : (p : Packet) → count < airLimit → Held (l ++ (packetOf p ∷ [])) (set packets count p) (count + 1)
   held-more p small = record {
     room = length-set packets count p ∙ h .room;
     list = tabulate-more count (packetIn (set packets count p))
@@ -52,7 +53,7 @@ module _ (l : List model.Packet) (packets : List Packet) (count : ℕ) (h : Held
   }
 
 -- Appending stores a packet at the count.
-pub appended-air : (air : Air) (p : Packet) → length (air .packets) ≡ 128 → air .count < 128
+pub appended-air : (air : Air) (p : Packet) → length (air .packets) ≡ airLimit → air .count < airLimit
     → airOf (record { packets = set (air .packets) (air .count) p; count = air .count + 1 }) ≡ airOf air ++ (packetOf p ∷ [])
 unfolding airOf
 appended-air air p long small = held-more (airOf air) (air .packets) (air .count) (record { room = long; list = refl }) p small .list

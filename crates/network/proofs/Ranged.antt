@@ -3,20 +3,18 @@ use Prim.Native.Nat.{ℕ, _^_, _≤_, _<_}
 use mathlib.Core.Path.{_≡_, sym, ap, subst, _∙_}
 use mathlib.Core.Logic.{_≢_}
 use mathlib.Core.Bool.{Bool, true}
-use mathlib.Core.List.{List, map, List·Memᴰ}
-use lib.ListN.{length, getD, length-map}
+use mathlib.Core.List.{List, List·Memᴰ}
+use lib.ListN.{length, getD}
 use native.Mathlib.Omega.{arith}
 use Rattle.base.proofs.Booleans.{Trichotomy, less, equal, more, trichotomy}
-use Rattle.base.proofs.Lists.{mem-at, unmapped}
-use Rattle.base.proofs.Loops.{tabulate-length, tabulate-at}
+use Rattle.base.proofs.Lists.{mem-at}
+use Rattle.base.proofs.Loops.{tabulate-at}
 use Rattle.label.specs.declared.Label.{Label}
 use Rattle.label.specs.Label.{inRange}
 use Rattle.model.specs.Memory as model
-use Rattle.model.specs.Memory.{place, memoryInRange}
+use Rattle.model.specs.Memory.{place, memoryInRange, airLimit, rowLimit}
 use Rattle.model.proofs.Invariant.{HeadOk, BodyOk, PacketOk, RecordOk}
 use Rattle.model.proofs.Range.{Sized, Invariant, in-range-invariant}
-use Rattle.network.specs.declared.Row.{Row}
-use Rattle.network.specs.declared.Record.{Record}
 use Rattle.network.specs.declared.Packet.{Packet}
 use Rattle.network.specs.declared.Memory.{Memory}
 use Rattle.network.specs.View.{zeroRow, zeroRecord, zeroPacket, entryOf, rowOf, recordOf, requestOf, replyOf, bodyOf, packetOf, airOf, labelOf, view}
@@ -73,9 +71,9 @@ carried n p ok = record {
 pub record Ranged (memory : Memory) : Type 0 where
   pub low : 2 ≤ memory .n
   pub high : memory .n ≤ 16
-  pub air-count : memory .air .count ≤ 128
+  pub air-count : memory .air .count ≤ airLimit
   pub packet : (k : ℕ) → k < memory .air .count → Carried (memory .n) (getD (memory .air .packets) k zeroPacket)
-  pub row-count : (i t : ℕ) → i < memory .n → t < memory .n → getD (memory .rows) (place i t) zeroRow .count ≤ 4
+  pub row-count : (i t : ℕ) → i < memory .n → t < memory .n → getD (memory .rows) (place i t) zeroRow .count ≤ rowLimit
   pub successor : (i t k : ℕ) → i < memory .n → t < memory .n → k < getD (memory .rows) (place i t) zeroRow .count
       → getD (getD (memory .rows) (place i t) zeroRow .stations) k 0 < memory .n
   pub label : (i t : ℕ) → i < memory .n → t < memory .n → inRange (labelOf (memory .s) (memory .m) (memory .d) (place i t)) ≡ true
@@ -89,7 +87,7 @@ module _ (memory : Memory) (k : Invariant ⊥ (view memory)) where
       let there = mem-at (airOf (memory .air)) x model.zeroPacket (omega (arith, air-length (memory .air))) in
       carried (memory .n) _ (subst (PacketOk ⊥ _ _ _) (air-at (memory .air) x model.zeroPacket h) (k .formed .air _ there))
 
-  row-short : (i t : ℕ) → i < memory .n → t < memory .n → getD (memory .rows) (place i t) zeroRow .count ≤ 4
+  row-short : (i t : ℕ) → i < memory .n → t < memory .n → getD (memory .rows) (place i t) zeroRow .count ≤ rowLimit
   unfolding view
   row-short i t hi ht =
       let row = getD (memory .rows) (place i t) zeroRow in

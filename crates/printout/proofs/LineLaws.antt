@@ -13,7 +13,7 @@ use Rattle.base.proofs.Lists.{flat-append, flat-one}
 use Rattle.base.proofs.Loops.{map-below-yes, map-below-no}
 use Rattle.label.specs.declared.Label.{Label}
 use Rattle.label.specs.Label.{isUnassigned}
-use Rattle.model.specs.Memory.{Successor, Network, place, stations}
+use Rattle.model.specs.Memory.{Successor, Network, place, stations, rowLimit}
 use Rattle.model.specs.Printout.{labelLine, isListed, labelLineAt, stationLines, labelLines}
 use Rattle.network.specs.declared.Row.{Row}
 use Rattle.network.specs.declared.Memory.{Memory}
@@ -49,7 +49,7 @@ module _ (i t : ℕ) (l : Label) (row : Row) where
       let s = row .stations in
       i ∷ t ∷ l .s .0 ∷ l .m ∷ l .d ∷ getD s 0 0 ∷ getD s 1 0 ∷ getD s 2 0 ∷ getD s 3 0 ∷ []
 
-  pub label-text : length (row .stations) ≡ 4 → row .count ≤ 4
+  pub label-text : length (row .stations) ≡ rowLimit → row .count ≤ rowLimit
       → labelText (labelLine i t l (stations (rowOf row))) ≡ (76 ∷ flatMap field (take (5 + row .count) numbers)) ++ (10 ∷ [])
   unfolding labelText rowOf
   label-text h k =

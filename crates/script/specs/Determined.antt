@@ -1,4 +1,4 @@
--- "A script and its events determine each other, read or written."
+-- Demand 2: "A script and the events it stands for determine each other, read or written."
 use Prim.Native.Nat.{ℕ, _^_, _≤_, _<_}
 use mathlib.Core.Path.{_≡_}
 use mathlib.Core.List.{List}

@@ -4,7 +4,7 @@ use mathlib.Core.Path.{_≡_}
 use mathlib.Core.Logic.{_≢_}
 use mathlib.Core.Bool.{true}
 use Rattle.label.specs.Label.{inRange}
-use Rattle.model.specs.Memory.{Network, requestNumberAt, soughtAt}
+use Rattle.model.specs.Memory.{Network, requestNumberAt, soughtAt, rowLimit}
 use Rattle.network.specs.declared.Packet.{Packet}
 use Rattle.station.specs.declared.Holding.{Holding}
 
@@ -17,6 +17,6 @@ pub record LastRequest (net : Network) (p : Packet) (number sought : ℕ) : Type
 pub record Ready (p : Packet) (h : Holding) : Type 0 where
   pub receiver-below : p .receiver < 16
   pub label-ranged : inRange (p .label) ≡ true
-  pub row-short : h .row .count ≤ 4
+  pub row-short : h .row .count ≤ rowLimit
   pub cached-ranged : p .receiver ≢ p .source → inRange (h .kept .cached) ≡ true
   pub hop-below : p .receiver ≢ p .source → h .kept .«last_hop» < 16

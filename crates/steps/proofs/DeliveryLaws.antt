@@ -14,7 +14,7 @@ use Rattle.base.specs.Results.{refused, accepted}
 use Rattle.base.proofs.Results.{refuse-holds, refuse-passes}
 use Rattle.label.specs.declared.Label.{Label}
 use Rattle.model.specs.Memory as model
-use Rattle.model.specs.Memory.{place, names, setLabels, setRows, setRecords, setActives, setAir}
+use Rattle.model.specs.Memory.{place, names, setLabels, setRows, setRecords, setActives, setAir, airLimit}
 use Rattle.model.specs.Calls.{Effect, effect, limited, notPacket, send, sending, takeOut, removes, emptied, errors, bit, errorOutcome, onError}
 use Rattle.model.specs.Calls.{removePacket, receive, deliver}
 use Rattle.model.proofs.Range.{Sized}
@@ -127,11 +127,11 @@ module _ (memory : Memory) (rest : Air) (p : Packet) (r : Reaction) where
   abbrev pub packets : List model.Packet
   packets = sentBy (r .scope) (memory .links) (memory .n) (p .receiver) (r .packet)
 
-  pub reaction-7 : 128 < rest .count + length packets → limited (reacts r p (flying memory rest)) ≡ refused 7
+  pub reaction-7 : airLimit < rest .count + length packets → limited (reacts r p (flying memory rest)) ≡ refused 7
   unfolding reacts holding view setAir setLabels setRows setRecords setActives
   reaction-7 h = sending-7 _ _ _ (rw (air-length rest) h)
 
-  pub reaction-accepted : rest .count + length packets ≤ 128 → limited (reacts r p (flying memory rest)) ≡ accepted (reacts r p (flying memory rest))
+  pub reaction-accepted : rest .count + length packets ≤ airLimit → limited (reacts r p (flying memory rest)) ≡ accepted (reacts r p (flying memory rest))
   unfolding reacts holding view setAir setLabels setRows setRecords setActives
   reaction-accepted h = sending-accepted _ _ _ (rw (air-length rest) h)
 
@@ -162,11 +162,11 @@ module _ (memory : Memory) (rest : Air) (i j mask : ℕ) where
   abbrev pub alarms : List model.Packet
   alarms = errors (flying memory rest) i gone
 
-  pub error-7 : 128 < rest .count + length alarms → limited (onError i j mask (flying memory rest)) ≡ refused 7
+  pub error-7 : airLimit < rest .count + length alarms → limited (onError i j mask (flying memory rest)) ≡ refused 7
   unfolding onError view setAir setRows
   error-7 h = sending-7 _ _ _ (rw (air-length rest) h)
 
-  pub error-accepted : rest .count + length alarms ≤ 128 → limited (onError i j mask (flying memory rest)) ≡ accepted (onError i j mask (flying memory rest))
+  pub error-accepted : rest .count + length alarms ≤ airLimit → limited (onError i j mask (flying memory rest)) ≡ accepted (onError i j mask (flying memory rest))
   unfolding onError view setAir setRows
   error-accepted h = sending-accepted _ _ _ (rw (air-length rest) h)
 
@@ -187,13 +187,13 @@ module _ (memory : Memory) (k : ℕ) where
   unfolding send setAir view
   doubled-length = length-append (airOf (memory .air)) _ ∙ ap (λ x. x + 1) (air-length (memory .air))
 
-  pub duplicate-full : 128 ≤ memory .air .count → limited doubled ≡ refused 7
+  pub duplicate-full : airLimit ≤ memory .air .count → limited doubled ≡ refused 7
   unfolding limited
-  duplicate-full h = refuse-holds 7 _ _ (lt-ltb 128 (length (doubled .net .air)) (omega (arith, doubled-length)))
+  duplicate-full h = refuse-holds 7 _ _ (lt-ltb airLimit (length (doubled .net .air)) (omega (arith, doubled-length)))
 
-  pub duplicate-room : memory .air .count < 128 → limited doubled ≡ accepted doubled
+  pub duplicate-room : memory .air .count < airLimit → limited doubled ≡ accepted doubled
   unfolding limited
-  duplicate-room h = refuse-passes 7 _ _ (le-ltb 128 (length (doubled .net .air)) (omega (arith, doubled-length)))
+  duplicate-room h = refuse-passes 7 _ _ (le-ltb airLimit (length (doubled .net .air)) (omega (arith, doubled-length)))
 
   pub duplicate-done : (air : Air) → k < memory .air .count → airOf air ≡ airOf (memory .air) ++ (packetOf (packetOn memory k) ∷ [])
       → effect 0 0 (view (changed memory (memory .rows) air (memory .links))) ≡ doubled

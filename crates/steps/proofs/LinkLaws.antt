@@ -10,7 +10,7 @@ use Rattle.base.specs.Lists.{keep}
 use Rattle.base.proofs.Lists.{keep-length}
 use Rattle.base.specs.Results.{refused, accepted}
 use Rattle.model.specs.Memory as model
-use Rattle.model.specs.Memory.{Network, error, place, rowIn, pairPlace, linkUp, names, setRows, setLinks, setAir}
+use Rattle.model.specs.Memory.{Network, error, place, rowIn, pairPlace, linkUp, names, setRows, setLinks, setAir, airLimit, rowLimit}
 use Rattle.model.specs.Calls.{effect, limited, send, sending, errors}
 use Rattle.model.specs.Calls.{takeOut, emptied, between, everyDestination, lost, parted, down, bit}
 use Rattle.model.proofs.Links.{link-pair}
@@ -53,7 +53,7 @@ module _ (memory : Memory) (a b : ℕ) (ranged : Ranged memory) where
       row-same t ht =
           rw e (takeOut-other (bit 65535) (names b) a b (map rowOf (memory .rows)) apart (memory .n) t (ranged .high) (omega (arith, ranged .high)))
 
-      pub row-short : b < memory .n → (t : ℕ) → t < memory .n → getD left (place b t) zeroRow .count ≤ 4
+      pub row-short : b < memory .n → (t : ℕ) → t < memory .n → getD left (place b t) zeroRow .count ≤ rowLimit
       row-short hb t ht =
           let at = place b t in
           let same = sym (row-at left at) ∙ row-same t ht ∙ row-at (memory .rows) at in
@@ -109,7 +109,7 @@ module _ (memory : Memory) (a b : ℕ) (rest : Air) (both : List Row) (links : L
   left-length = ap length (sym (k .air-is)) ∙ air-length rest
 
   -- Few enough for a count in 8 bits.
-  pub parting-few : Ranged memory → (rest .count ≤ 128) × (length first ≤ 16) × (length second ≤ 16)
+  pub parting-few : Ranged memory → (rest .count ≤ airLimit) × (length first ≤ 16) × (length second ≤ 16)
   unfolding parted setRows setAir setLinks view
   parting-few ranged = (
     omega (arith, left-length, keep-length (λ p. not (between a b p)) (airOf (memory .air)), air-length (memory .air), ranged .air-count),
@@ -117,16 +117,16 @@ module _ (memory : Memory) (a b : ℕ) (rest : Air) (both : List Row) (links : L
     omega (arith, ap length (k .second-are), errors-length cut b (lost (view memory) b a), ranged .high),
   )
 
-  pub parting-full : 128 < rest .count + length first + length second → limited (down a b (view memory)) ≡ refused 7
+  pub parting-full : airLimit < rest .count + length first + length second → limited (down a b (view memory)) ≡ refused 7
   unfolding down
   parting-full h = sending-7 0 told cut (omega (arith, left-length, told-length))
 
-  pub parting-room : rest .count + length first + length second ≤ 128 → limited (down a b (view memory)) ≡ accepted (down a b (view memory))
+  pub parting-room : rest .count + length first + length second ≤ airLimit → limited (down a b (view memory)) ≡ accepted (down a b (view memory))
   unfolding down
   parting-room h = sending-accepted 0 told cut (omega (arith, left-length, told-length))
 
   -- Room for what b sends, once a has sent.
-  pub parting-next : (next : Air) → airOf next ≡ airOf rest ++ first → rest .count + length first + length second ≤ 128 → next .count + length second ≤ 128
+  pub parting-next : (next : Air) → airOf next ≡ airOf rest ++ first → rest .count + length first + length second ≤ airLimit → next .count + length second ≤ airLimit
   parting-next next e h =
       let count = sym (air-length next) ∙ ap length e ∙ length-append (airOf rest) first in
       omega (arith, count, air-length rest)

@@ -8,7 +8,7 @@ use Rattle.base.specs.Lists.{below}
 use Rattle.base.proofs.Lists.{map-set}
 use Rattle.base.specs.Results.{refused, accepted}
 use Rattle.model.specs.Memory as model
-use Rattle.model.specs.Memory.{place, linkIn, request, setNumbers, setSoughts, setActives, setAir}
+use Rattle.model.specs.Memory.{place, linkIn, request, setNumbers, setSoughts, setActives, setAir, airLimit}
 use Rattle.model.specs.Calls.{effect, limited, packet, send, sending, neighbours, copies, solicit}
 use Rattle.model.proofs.Refusals.{sending-7, sending-accepted}
 use Rattle.network.specs.declared.RequestNumber.{RequestNumber}
@@ -32,12 +32,12 @@ module _ (memory : Memory) (a t : ℕ) where
     reset = false;
   })
 
-  pub solicit-full : 128 < memory .air .count + length around
+  pub solicit-full : airLimit < memory .air .count + length around
       → limited (solicit a t (view memory)) ≡ refused 7
   unfolding solicit copies neighbours view setActives setSoughts setNumbers
   solicit-full h = sending-7 0 _ _ (rw (air-length (memory .air), length-map) h)
 
-  pub solicit-room : memory .air .count + length around ≤ 128 → limited (solicit a t (view memory)) ≡ accepted (solicit a t (view memory))
+  pub solicit-room : memory .air .count + length around ≤ airLimit → limited (solicit a t (view memory)) ≡ accepted (solicit a t (view memory))
   unfolding solicit copies neighbours view setActives setSoughts setNumbers
   solicit-room h = sending-accepted 0 _ _ (rw (air-length (memory .air), length-map) h)
 

@@ -4,7 +4,7 @@ ghost use mathlib.Core.Bool.{true};
 ghost use Prim.Native.Nat.{_<_};
 ghost use Rattle.model.specs.Memory.{memoryInRange};
 ghost use Rattle.model.specs.Calls.{step};
-ghost use Rattle.model.specs.Events.{notEvent, callOf, eventOf};
+ghost use Rattle.model.specs.Events.{callOf, eventOf};
 ghost use Rattle.network.specs.View.{view};
 ghost use Rattle.steps.specs.Called.{Called};
 ghost use Rattle.steps.specs.Happens.{Happens};

@@ -86,7 +86,7 @@ pub fn count_of(result: u64) -> u32 {
 }
 
 fn is_refused(result: u64) -> bool {
-    (1..=12).contains(&answer_of(result))
+    (1..100).contains(&answer_of(result))
 }
 
 /// Longer than anything that a call shows.

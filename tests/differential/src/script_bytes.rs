@@ -29,6 +29,10 @@ fn check_read(tally: &mut Tally, script: &[u8], kinds: usize, operands: usize) -
     if library::script_start(script) != console::script_start(script) {
         return fails("the starts differ");
     }
+    // 12 is of the arrays; any other refusal is of the script, which then has no start.
+    if (library::script_start(script) != 0) != matches!(answer_of(result), 0 | 12) {
+        return fails("a script that does not read has a start, or one that reads has none");
+    }
     if answer_of(result) == 0 {
         let (events, n) = (count_of(result) as usize & 0xffff, count_of(result) as usize >> 16);
         let start = library::script_start(script);
@@ -149,7 +153,8 @@ pub fn check_each_value() -> Result<Tally, String> {
             damaged[at] = value;
             check_read_whole(&mut tally, &damaged)?;
             let (kinds, operands) = damaged[HEAD..].split_at(9);
-            check_write(&mut tally, usize::from(damaged[0]), library::script_start(&damaged), kinds, operands, damaged.len())?;
+            let start = u64::from_le_bytes(damaged[3..HEAD].try_into().unwrap());
+            check_write(&mut tally, usize::from(damaged[0]), start, kinds, operands, damaged.len())?;
         }
     }
     Ok(tally)

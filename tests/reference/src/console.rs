@@ -156,7 +156,7 @@ pub fn read_script(script: &[u8], kinds: &mut [u8], operands: &mut [u8]) -> u64 
 }
 
 pub fn script_start(script: &[u8]) -> u64 {
-    script::start_of(script)
+    script::start(script)
 }
 
 pub fn write_script(n: usize, start: u64, kinds: &[u8], operands: &[u8], out: &mut [u8]) -> u64 {

@@ -51,18 +51,13 @@ fn test_events(kinds: &[u8], operands: &[u8]) -> Result<(), u32> {
     }
 }
 
-/// The start that stands in a script's head; 0 where there is no head.
-pub fn start_of(script: &[u8]) -> u64 {
-    script.get(3..HEAD).map_or(0, |bytes| u64::from_le_bytes(bytes.try_into().unwrap()))
-}
-
 /// A script taken apart: its sizes, kinds and operands. "Reading a script tests 9, 10, 1, 11".
 pub fn parse(script: &[u8]) -> Result<(Sizes, &[u8], &[u8]), u32> {
     if script.len() < HEAD {
         return Err(9);
     }
     let events = usize::from(u16::from_le_bytes([script[1], script[2]]));
-    let sizes = Sizes { n: script[0], events, start: start_of(script) };
+    let sizes = Sizes { n: script[0], events, start: u64::from_le_bytes(script[3..HEAD].try_into().unwrap()) };
     if events > MAX_EVENTS || script.len() != length(events) {
         return Err(10);
     }
@@ -70,6 +65,11 @@ pub fn parse(script: &[u8]) -> Result<(Sizes, &[u8], &[u8]), u32> {
     let (kinds, operands) = script[HEAD..].split_at(events);
     test_events(kinds, operands)?;
     Ok((sizes, kinds, operands))
+}
+
+/// The start of a script that reads, and 0 for every other.
+pub fn start(script: &[u8]) -> u64 {
+    parse(script).map_or(0, |(sizes, _, _)| sizes.start)
 }
 
 /// Reads a script into lent arrays, 12 last: "a lent output array shorter than E kinds, 2E operands". Places past these are kept.

@@ -10,7 +10,7 @@ use borrow.Author.Tests.{le-leb, lt-leb}
 use Rattle.base.proofs.Booleans.{was-true, was-false}
 use Rattle.base.specs.Results.{accepted}
 use Rattle.codec.specs.Bytes.{byteAt}
-use Rattle.model.specs.Memory.{Packet}
+use Rattle.model.specs.Memory.{Packet, airLimit}
 use Rattle.network.specs.View.{packetOf}
 use Rattle.layout.specs.Places.{layoutLength, airAt, packetsAt}
 use Rattle.layout.specs.Stored.{storedPacket, storedNetwork}
@@ -36,7 +36,7 @@ start c = first c .before .before .before .before
 there : (c : tie.Else2) → leb (byteAt (start c .args .memory .now) airAt) (start c .args .k) ≡ false
 there c = lt-leb _ _ (c .if2 .left)
 
-fits : (c : tie.Else2) → (start c .args .k < 128) × (layoutLength ≤ length (start c .args .memory .now))
+fits : (c : tie.Else2) → (start c .args .k < airLimit) × (layoutLength ≤ length (start c .args .memory .now))
 fits c =
     let k = known _ (in-range (first c)) in
     (omega (arith, k .room, c .if2 .left), k .long)

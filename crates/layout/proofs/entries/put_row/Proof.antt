@@ -8,7 +8,7 @@ use borrow.Author.Needs.{needs}
 use Rattle.base.specs.Lists.{tabulate}
 use Rattle.network.proofs.Bounds.{RowLengths, row-lengths}
 use Rattle.codec.proofs.ByteLaws.{sets-next}
-use Rattle.model.specs.Memory.{Successor}
+use Rattle.model.specs.Memory.{Successor, rowLimit}
 use Rattle.network.specs.declared.Row.{Row}
 use Rattle.network.specs.View.{rowOf}
 use Rattle.network.proofs.RowLaws.{row-length}
@@ -27,10 +27,10 @@ entryIn row k = getD (rowOf row) k zeroSuccessor
 
 abbrev Inv-loop : tie.InvT-loop
 Inv-loop out₀ at row count k₀ out k =
-    (k ≤ 4) × Put successorBytes EntryFits (entryIn row) out₀ (at + 1) out k
+    (k ≤ rowLimit) × Put successorBytes EntryFits (entryIn row) out₀ (at + 1) out k
 
 abbrev μ-loop : tie.MeasureT-loop
-μ-loop out₀ at row count k₀ out k = 4 - k
+μ-loop out₀ at row count k₀ out k = rowLimit - k
 
 long : (c : tie.Start Inv-loop μ-loop) → RowLengths (c .args .row)
 long c = row-lengths (c .args .row) (c .good .1 .1 .0)

@@ -6,16 +6,17 @@ use borrow.Author.Needs.{needs}
 use Rattle.base.proofs.Loops.{Filled, filled-none, filled-more, filled-all}
 use Rattle.codec.specs.Bytes.{byteAt}
 use Rattle.codec.specs.Tables.{tableAt}
+use Rattle.model.specs.Memory.{rowLimit}
 use Rattle.layout.specs.Stored.{storedLabel, storedRow}
 use Rattle.layout.proofs.entries.read_row.Statement.{statement}
 use Rattle.layout.proofs.entries.read_row.Tie as tie
 
 abbrev Inv-loop : tie.InvT-loop
 Inv-loop bytes at labels₀ stations₀ k₀ labels stations k =
-    (k ≤ 4) × Filled 4 (λ j. storedLabel bytes (at + 2 + 17 * j)) labels k × Filled 4 (λ j. byteAt bytes (at + 1 + 17 * j)) stations k
+    (k ≤ rowLimit) × Filled rowLimit (λ j. storedLabel bytes (at + 2 + 17 * j)) labels k × Filled rowLimit (λ j. byteAt bytes (at + 1 + 17 * j)) stations k
 
 abbrev μ-loop : tie.MeasureT-loop
-μ-loop bytes at labels₀ stations₀ k₀ labels stations k = 4 - k
+μ-loop bytes at labels₀ stations₀ k₀ labels stations k = rowLimit - k
 
 label-of-requires : tie.Need-label-of-requires Inv-loop μ-loop
 label-of-requires c κs = search needs

@@ -28,10 +28,10 @@ packetOr air k = getD (airOf air) k zeroPacket
 
 abbrev Inv-loop : tie.InvT-loop
 Inv-loop out₀ at air count limit k₀ out k =
-    (k ≤ 128) × Put packetBytes PacketFits (packetOr air) out₀ (at + 1) out k
+    (k ≤ airLimit) × Put packetBytes PacketFits (packetOr air) out₀ (at + 1) out k
 
 abbrev μ-loop : tie.MeasureT-loop
-μ-loop out₀ at air count limit k₀ out k = 128 - k
+μ-loop out₀ at air count limit k₀ out k = airLimit - k
 
 room : (c : tie.Start Inv-loop μ-loop) → length (c .args .t3 .packets) ≡ airLimit
 room c = packets-length (c .args .t3) (c .good .1 .1 .0)
@@ -102,10 +102,10 @@ returns c =
     let start = first .before .before .before in
     let air = start .args .t3 in
     let loop = c .before .loop in
-    let all : loop .k ≡ 128 = omega arith in
+    let all : loop .k ≡ airLimit = omega arith in
     let put = loop .inv .1 in (
       put .stands ∙ rw (all, first .put-byte .ensures, air-length air) (sets-next (start .args .out .now) (start .args .at) (start .args .at + 1) (air .count ∷ [])
-          (flatMap packetBytes (tabulate 128 (packetOr air))) refl),
+          (flatMap packetBytes (tabulate airLimit (packetOr air))) refl),
       record { bodies = λ k h. put .fits k (omega arith); past = air-past air (room start) },
     )
 

@@ -5,15 +5,16 @@ use native.Mathlib.Omega.{arith}
 use borrow.Author.Needs.{needs}
 use Rattle.base.proofs.Loops.{Filled, filled-none, filled-more, filled-all}
 use Rattle.codec.specs.Tables.{tableAt}
+use Rattle.model.specs.Memory.{airLimit}
 use Rattle.layout.specs.Stored.{storedPacket, storedAir}
 use Rattle.layout.proofs.packets.read_air.Statement.{statement}
 use Rattle.layout.proofs.packets.read_air.Tie as tie
 
 abbrev Inv-loop : tie.InvT-loop
-Inv-loop bytes at packets₀ k₀ packets k = (k ≤ 128) × Filled 128 (λ j. storedPacket bytes (at + 1 + 28 * j)) packets k
+Inv-loop bytes at packets₀ k₀ packets k = (k ≤ airLimit) × Filled airLimit (λ j. storedPacket bytes (at + 1 + 28 * j)) packets k
 
 abbrev μ-loop : tie.MeasureT-loop
-μ-loop bytes at packets₀ k₀ packets k = 128 - k
+μ-loop bytes at packets₀ k₀ packets k = airLimit - k
 
 bare-requires : tie.Need-bare-requires Inv-loop μ-loop
 bare-requires c κs = search needs

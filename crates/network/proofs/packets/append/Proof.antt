@@ -33,6 +33,7 @@ use denote.Triple.Statement.{Contract, Triple}
 use denote.Triple.Table.{entered, cited}
 use denote.Triple.Walked.{says, needs, Stays, stay-dropped, walkOf, goes-dropped, Walks, ends-at, walked, walk-meets}
 use denote.Exit.{yes}
+use Rattle.model.specs.Memory.{airLimit}
 use Rattle.network.specs.declared.Packet.{Packet}
 use Rattle.network.specs.declared.Air.{Air}
 use Rattle.network.proofs.PacketLaws.{appended-air}
@@ -64,11 +65,11 @@ module _ {M : Type 1} (𝓤 : URA M) (H : Heap 𝓤) (A : Atoms 𝓤) (mem : Mem
   Call = tripleOf 𝓤 H A append-to.signature (append-to.spec 𝓤 H A mem run)
 
 module _ {M : Type 1} (𝓤 : URA M) (H : Heap 𝓤) (A : Atoms 𝓤) (W : Given 𝓤 H A) (mem : Memory → SProp 𝓤) (run : Routine → Fun 𝓤)
-    (a : Air) (p : Packet) (valid : ValidAir a) (valid-p : ValidPacket p) (small : a .count < 128) where
+    (a : Air) (p : Packet) (valid : ValidAir a) (valid-p : ValidPacket p) (small : a .count < airLimit) where
   abbrev entry : Walk 𝓤 H A mem run .Ghost
   entry = ((tt, tt, tt, (a, (p, tt)), (air-vals a, (packet-vals p, tt))), tt)
 
-  long : length (a .packets) ≡ 128
+  long : length (a .packets) ≡ airLimit
   long = packets-length a valid
 
   -- What the array holds after the call, and the air at exit.
@@ -146,7 +147,7 @@ module _ {M : Type 1} (𝓤 : URA M) (H : Heap 𝓤) (A : Atoms 𝓤) (W : Given
   walks : Walks 𝓤 H A f.ended stayed (WpFn 𝓤 H (𝓣 .C) (𝓣 .Λ) code.function) (f.clauses 𝓤 H A mem run)
   walks = walked 𝓤 H A f.ended stayed (f.clauses 𝓤 H A mem run) (WpFn 𝓤 H (𝓣 .C) (𝓣 .Λ) code.function)
       (λ κs. (air-vals, (packet-vals, tt))) (λ κs. (tells air.the-type air′.the-laws, (tells packet.the-type packet′.the-laws, tt)))
-      (λ κs qs bounds a g are. needs 𝓤 (a .0 .count < 128) _ (λ small.
+      (λ κs qs bounds a g are. needs 𝓤 (a .0 .count < airLimit) _ (λ small.
       walk 𝓤 H A W mem run (a .0) (a .1 .0) (are .0) (are .1 .0) small (𝓣 .C) (𝓣 .Λ) (fmOf 𝓤 H (W .laws) 𝓣) known))
 
   meets : Meets 𝓤 H A f.signature (WpFn 𝓤 H (𝓣 .C) (𝓣 .Λ) code.function) (f.spec 𝓤 H A mem run)

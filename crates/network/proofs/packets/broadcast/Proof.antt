@@ -9,7 +9,7 @@ use Rattle.base.specs.Lists.{below}
 use Rattle.base.proofs.Booleans.{cases}
 use Rattle.base.proofs.Loops.{below-yes, below-no, below-next, map-below-yes, map-below-no}
 use Rattle.model.specs.Memory as model
-use Rattle.model.specs.Memory.{linkIn}
+use Rattle.model.specs.Memory.{linkIn, airLimit}
 use Rattle.model.specs.Calls.{packet}
 use Rattle.model.proofs.Links.{link-at}
 use Rattle.network.specs.declared.Air.{Air}
@@ -47,7 +47,7 @@ linked : (c : tie.After-joined Inv-loop μ-loop) → linkIn (c .before .before .
 linked c = sym (c .joined .ensures ∙ link-at _ _ _ _ (c .before .pair-place .ensures))
 
 -- There is room for one more copy.
-room : (c : tie.Then1 Inv-loop μ-loop) → c .before .before .before .before .loop .count < 128
+room : (c : tie.Then1 Inv-loop μ-loop) → c .before .before .before .before .loop .count < airLimit
 room c =
     let args = c .before .before .before .before .before .args in
     let up = linkIn (args .t2) (args .a) in

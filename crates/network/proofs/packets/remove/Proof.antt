@@ -36,6 +36,7 @@ use denote.Triple.Table.{entered, cited}
 use denote.Triple.Walked.{says, needs, Stays, stay-dropped, walkOf, goes-dropped, Walks, ends-at, walked, walk-meets}
 use denote.Exit.{yes}
 use Rattle.base.specs.Lists.{removed}
+use Rattle.model.specs.Memory.{airLimit}
 use Rattle.network.specs.declared.Packet.{Packet}
 use Rattle.network.specs.declared.Air.{Air}
 use Rattle.network.proofs.PacketLaws.{removed-air}
@@ -65,11 +66,11 @@ module _ {M : Type 1} (𝓤 : URA M) (H : Heap 𝓤) (A : Atoms 𝓤) (mem : Mem
   Call = tripleOf 𝓤 H A remove-from.signature (remove-from.spec 𝓤 H A mem run)
 
 module _ {M : Type 1} (𝓤 : URA M) (H : Heap 𝓤) (A : Atoms 𝓤) (W : Given 𝓤 H A) (mem : Memory → SProp 𝓤) (run : Routine → Fun 𝓤)
-    (a : Air) (k : ℕ) (valid : ValidAir a) (k-fits : k < 2 ^ 64) (within : (k < a .count) × (a .count ≤ 128)) where
+    (a : Air) (k : ℕ) (valid : ValidAir a) (k-fits : k < 2 ^ 64) (within : (k < a .count) × (a .count ≤ airLimit)) where
   abbrev entry : Walk 𝓤 H A mem run .Ghost
   entry = ((tt, tt, tt, (a, (k, tt)), (air-vals a, (vint w64 k ∷ [], tt))), tt)
 
-  long : length (a .packets) ≡ 128
+  long : length (a .packets) ≡ airLimit
   long = packets-length a valid
 
   -- What the array holds after the call, and the air at exit.
@@ -147,7 +148,7 @@ module _ {M : Type 1} (𝓤 : URA M) (H : Heap 𝓤) (A : Atoms 𝓤) (W : Given
   walks : Walks 𝓤 H A f.ended stayed (WpFn 𝓤 H (𝓣 .C) (𝓣 .Λ) code.function) (f.clauses 𝓤 H A mem run)
   walks = walked 𝓤 H A f.ended stayed (f.clauses 𝓤 H A mem run) (WpFn 𝓤 H (𝓣 .C) (𝓣 .Λ) code.function)
       (λ κs. (air-vals, (uint-vals w64, tt))) (λ κs. (tells air.the-type air′.the-laws, (uint-tells w64, tt)))
-      (λ κs qs bounds a g are. needs 𝓤 ((a .1 .0 < a .0 .count) × (a .0 .count ≤ 128)) _ (λ within.
+      (λ κs qs bounds a g are. needs 𝓤 ((a .1 .0 < a .0 .count) × (a .0 .count ≤ airLimit)) _ (λ within.
       walk 𝓤 H A W mem run (a .0) (a .1 .0) (are .0) (are .1 .0 .1) within (𝓣 .C) (𝓣 .Λ) (fmOf 𝓤 H (W .laws) 𝓣) known))
 
   meets : Meets 𝓤 H A f.signature (WpFn 𝓤 H (𝓣 .C) (𝓣 .Λ) code.function) (f.spec 𝓤 H A mem run)

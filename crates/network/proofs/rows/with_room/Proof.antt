@@ -2,6 +2,7 @@
 use mathlib.Core.Path.{_≡_, sym, _∙_}
 use native.Mathlib.Omega.{arith}
 use borrow.Author.Needs.{needs}
+use Rattle.model.specs.Memory.{rowLimit}
 use Rattle.model.proofs.Rows.{room-same, room-full}
 use Rattle.network.proofs.RowLaws.{row-length, row-first-left}
 use Rattle.network.proofs.rows.with_room.Statement.{statement}
@@ -31,7 +32,7 @@ element-copy-out-c c = search needs
 returns-2 : tie.Need-returns-2
 returns-2 c =
     let row = c .before .before .before .before .before .before .before .args .t1 in
-    let full : row .count ≡ 4 = omega arith in
+    let full : row .count ≡ rowLimit = omega arith in
     row-first-left row full ∙ sym (room-full _ (omega (arith, row-length row)))
 
 pub with-room-spec : {M : Type 1} → statement M

@@ -8,7 +8,7 @@ use borrow.Author.Needs.{needs}
 use Rattle.base.proofs.Booleans.{not-was-true, not-was-false}
 use Rattle.base.proofs.Results.{refuse-holds, refuse-passes}
 use Rattle.model.specs.Calls.{notOpening}
-use Rattle.model.specs.Events.{eventAt, notEvents, allEvents, running}
+use Rattle.model.specs.Events.{eventAt, eventLimit, notEvents, allEvents, running}
 use Rattle.model.proofs.Refusals.{opening-tells}
 use Rattle.model.proofs.EventLaws.{events-tell}
 use Rattle.steps.proofs.CallLaws.{called-refused}
@@ -44,7 +44,7 @@ abbrev tested : tie.At-loop Inv-loop μ-loop → tie.Else2 Inv-loop μ-loop
 tested c = c .before .before .before .before
 
 counted : (c : tie.At-loop Inv-loop μ-loop) → let args = first (tested c .before .before) .args in
-    (length (args .kinds .now) ≤ 4_096) × (length (args .operands .now) ≡ 2 * length (args .kinds .now))
+    (length (args .kinds .now) ≤ eventLimit) × (length (args .operands .now) ≡ 2 * length (args .kinds .now))
 counted c = events-tell _ _ (listed (tested c .before .before))
 
 not-events-requires : tie.Need-not-events-requires Inv-loop μ-loop

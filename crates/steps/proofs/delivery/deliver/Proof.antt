@@ -1,7 +1,6 @@
 -- `delivery::deliver` meets its contract: refused with 6, or by the packet's kind.
 use Prim.Native.Nat.{_<_}
 use mathlib.Core.Path.{_≡_, _∙_}
-use borrow.Author.Needs.{needs}
 use Rattle.model.proofs.Refusals.{deliver-6}
 use Rattle.network.proofs.Bounds.{sized}
 use Rattle.network.proofs.Ranged.{Ranged, in-range-ranged}

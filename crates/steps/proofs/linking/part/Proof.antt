@@ -6,6 +6,7 @@ use mathlib.Core.List.{List}
 use lib.ListN.{length, set}
 use native.Mathlib.Omega.{arith}
 use borrow.Author.Needs.{needs}
+use Rattle.model.specs.Memory.{airLimit}
 use Rattle.model.specs.Memory as model
 use Rattle.model.proofs.Range.{Sized}
 use Rattle.network.specs.declared.Air.{Air}
@@ -110,7 +111,7 @@ copies-requires-2 c κs = let w = below (start (c .before)) in (w .0, w .2)
 abbrev at-pieces : tie.After-struct-known → tie.After-error-scope2
 at-pieces c = c .before .before .before
 
-few : (c : tie.After-struct-known) → (rest (at-pieces c) .count ≤ 128) × (c .before .before .copies .result ≤ 16) × (c .before .copies2 .result ≤ 16)
+few : (c : tie.After-struct-known) → (rest (at-pieces c) .count ≤ airLimit) × (c .before .before .copies .result ≤ 16) × (c .before .copies2 .result ≤ 16)
 few c =
     let w = parting-few _ _ _ _ _ _ _ _ (pieces (at-pieces c)) (known (start (at-pieces c))) in
     (w .0, omega (arith, c .before .before .copies .ensures, w .1), omega (arith, c .before .copies2 .ensures, w .2))
@@ -128,7 +129,7 @@ returns c =
     (start at .pre .1 .1
     ∙ parting-full _ _ _ _ _ _ _ _ (pieces at) (omega (arith, c .before .before .before .copies .ensures, c .before .before .copies2 .ensures)))
 
-room : (c : tie.Else1) → rest (at-pieces (c .before)) .count + length (first (at-pieces (c .before))) + length (second (at-pieces (c .before))) ≤ 128
+room : (c : tie.Else1) → rest (at-pieces (c .before)) .count + length (first (at-pieces (c .before))) + length (second (at-pieces (c .before))) ≤ airLimit
 room c = omega (arith, c .before .before .before .copies .ensures, c .before .before .copies2 .ensures)
 
 transmit-requires : tie.Need-transmit-requires

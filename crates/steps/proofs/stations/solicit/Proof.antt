@@ -8,7 +8,7 @@ use native.Mathlib.Omega.{arith}
 use borrow.Author.Needs.{needs}
 use borrow.Author.Tests.{le-leb, lt-leb}
 use Rattle.base.proofs.Loops.{below-length}
-use Rattle.model.specs.Memory.{linkIn}
+use Rattle.model.specs.Memory.{linkIn, airLimit}
 use Rattle.model.specs.Calls.{Solicit, limited, notStation, notPair, solicit, step}
 use Rattle.model.proofs.Range.{Sized}
 use Rattle.model.proofs.Refusals.{solicit-2, solicit-4, solicit-8, solicit-limited}
@@ -142,7 +142,7 @@ mul-asked c = search needs
 abbrev third : tie.After-request → tie.Else3
 third c = c .before .before .before .before .before .before .before .before .before .before .before
 
-room : (c : tie.After-request) → start (third c) .args .t1 .air .count + length (around (start (third c) .args .t1) (start (third c) .args .a) (start (third c) .args .t)) ≤ 128
+room : (c : tie.After-request) → start (third c) .args .t1 .air .count + length (around (start (third c) .args .t1) (start (third c) .args .a) (start (third c) .args .t)) ≤ airLimit
 room c = omega (arith, counted (c .before .before .before .before .before .before .before .before))
 
 element-set-from-asked : tie.Need-element-set-from-asked
