@@ -29,20 +29,20 @@ module _ {A : Type 0} where
   not-turned-down number false rest x h = (refl, h)
 
 -- Every number that it may be turned down with has the property P, and what it gives has Q.
-pub data Ends {A : Type 0} (P : ℕ → Type 0) (Q : A → Type 0) : Result A → Type 0 where
-  refuses : {number : ℕ} → P number → Ends P Q (refused number)
-  accepts : {x : A} → Q x → Ends P Q (accepted x)
+pub data Satisfies {A : Type 0} (P : ℕ → Type 0) (Q : A → Type 0) : Result A → Type 0 where
+  refuses : {number : ℕ} → P number → Satisfies P Q (refused number)
+  accepts : {x : A} → Q x → Satisfies P Q (accepted x)
 
 module _ {A : Type 0} {P : ℕ → Type 0} {Q : A → Type 0} where
   -- Past a test that passes.
-  pub ends-refuse : (number : ℕ) (case : Bool) (rest : Result A) → P number → (case ≡ false → Ends P Q rest) → Ends P Q (refuse number when case otherwise rest)
+  pub satisfies-refuse : (number : ℕ) (case : Bool) (rest : Result A) → P number → (case ≡ false → Satisfies P Q rest) → Satisfies P Q (refuse number when case otherwise rest)
   unfolding refuse_when_otherwise_
-  ends-refuse number case rest h k = choose (Ends P Q) case (λ e. refuses h) k
+  satisfies-refuse number case rest h k = choose (Satisfies P Q) case (λ e. refuses h) k
 
-  pub ends-refused : (r : Result A) (number : ℕ) → Ends P Q r → r ≡ refused number → P number
-  ends-refused (refused k) number (refuses h) e = let q : k ≡ number = cc in subst P q h
-  ends-refused (accepted x) number t e = not-accepted (sym e)
+  pub satisfies-refused : (r : Result A) (number : ℕ) → Satisfies P Q r → r ≡ refused number → P number
+  satisfies-refused (refused k) number (refuses h) e = let q : k ≡ number = cc in subst P q h
+  satisfies-refused (accepted x) number t e = not-accepted (sym e)
 
-  pub ends-accepted : (r : Result A) (x : A) → Ends P Q r → r ≡ accepted x → Q x
-  ends-accepted (refused k) x t e = not-accepted e
-  ends-accepted (accepted y) x (accepts h) e = subst Q (same-accepted e) h
+  pub satisfies-accepted : (r : Result A) (x : A) → Satisfies P Q r → r ≡ accepted x → Q x
+  satisfies-accepted (refused k) x t e = not-accepted e
+  satisfies-accepted (accepted y) x (accepts h) e = subst Q (same-accepted e) h

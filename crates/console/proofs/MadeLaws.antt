@@ -12,7 +12,7 @@ use Rattle.model.proofs.Refusals.{open-1, open-accepted}
 use Rattle.model.proofs.HistoryLaws.{madeNetwork, made-holds, made-reached}
 use Rattle.layout.specs.Stored.{storedNetwork}
 use Rattle.console.specs.Console.{tooShort, notMemory, unreadable, calling, Stores, Ends}
-use Rattle.console.specs.Made.{CallEnds, MadeByCalls}
+use Rattle.console.specs.Made.{LeavesBytes, MadeBytes}
 use Rattle.console.proofs.ConsoleLaws.{memory-readable, calling-1, calling-step}
 
 -- After a call, turned down or not, the bytes hold the network that the model's call leaves.
@@ -21,13 +21,13 @@ unfolding Ends after
 ends-stores bytes net s (refused number) r next e = subst (λ b. Stores b net) (sym (e .1)) s
 ends-stores bytes net s (accepted x) r next e = e .2
 
-stepped : (c : Call) (bytes : List ℕ) (r : ℕ) (left : List ℕ) (net : Network) → Stores bytes net → CallEnds c bytes r left → Stores left (after net (step c net))
+stepped : (c : Call) (bytes : List ℕ) (r : ℕ) (left : List ℕ) (net : Network) → Stores bytes net → LeavesBytes c bytes r left → Stores left (after net (step c net))
 stepped c bytes r left net s e =
     let same : calling c bytes ≡ step c net = calling-step c bytes (memory-readable bytes (s .readable) c) ∙ ap (step c) (s .network) in
     subst (λ z. Stores left (after net z)) same (ends-stores bytes net s (calling c bytes) r left e)
 
 -- An Open that answers 0 was accepted, and leaves the bytes of fresh memory.
-opened : (n start : ℕ) (bytes left : List ℕ) → CallEnds (Open n start) bytes 0 left → (notOpening n start ≡ false) × Stores left (fresh n start)
+opened : (n start : ℕ) (bytes left : List ℕ) → LeavesBytes (Open n start) bytes 0 left → (notOpening n start ≡ false) × Stores left (fresh n start)
 unfolding Ends unreadable
 opened n start bytes left h = go (tooShort bytes) refl (notOpening n start) refl
   where
@@ -44,13 +44,13 @@ opened n start bytes left h = go (tooShort bytes) refl (notOpening n start) refl
         let z = calling-step c bytes e ∙ open-accepted n start (storedNetwork bytes) k in
         (k, subst (λ x. Ends bytes x 0 left) z h .2)
 
-module _ (bytes : List ℕ) (m : MadeByCalls bytes) where
-  made-stores : Stores bytes (madeNetwork CallEnds Stores opened stepped bytes m)
-  made-stores = made-holds CallEnds Stores opened stepped bytes m
+module _ (bytes : List ℕ) (m : MadeBytes bytes) where
+  made-stores : Stores bytes (madeNetwork LeavesBytes Stores opened stepped bytes m)
+  made-stores = made-holds LeavesBytes Stores opened stepped bytes m
 
   -- So they are memory, and hold a network that a list of calls reaches.
   pub made-readable : notMemory bytes ≡ false
   made-readable = made-stores .readable
 
   pub made-reaches : Reached (storedNetwork bytes)
-  made-reaches = subst Reached (sym (made-stores .network)) (made-reached CallEnds Stores opened stepped bytes m)
+  made-reaches = subst Reached (sym (made-stores .network)) (made-reached LeavesBytes Stores opened stepped bytes m)

@@ -5,7 +5,7 @@ use mathlib.Core.List.{List}
 use lib.ListN.{length}
 use native.Mathlib.Omega.{arith}
 use Rattle.base.specs.Results.{Result, refused, accepted, mapped}
-use Rattle.base.proofs.Results.{Ends, accepts}
+use Rattle.base.proofs.Results.{Satisfies, accepts}
 use Rattle.codec.specs.Bytes.{Puts}
 use Rattle.model.specs.Events.{eventLimit}
 use Rattle.model.proofs.EventLaws.{events-tell}
@@ -33,7 +33,7 @@ pub read-small : (bytes kinds operands : List ℕ) (f : Found) (kinds′ operand
 unfolding Reads foundOf
 read-small bytes kinds operands f kinds′ operands′ h = go (reading bytes (length kinds) (length operands)) (reading-ends bytes (length kinds) (length operands)) (h .0)
   where
-    go : (z : Result Script) → Ends Positive (Parsed bytes) z → f ≡ foundOf z → f .events ≤ eventLimit
+    go : (z : Result Script) → Satisfies Positive (Parsed bytes) z → f ≡ foundOf z → f .events ≤ eventLimit
     go (refused number) t e = omega (arith, ap (λ (x : Found). x .events) e)
     go (accepted s) (accepts p) e =
         let few = sized-tell (eventCount bytes) (length bytes) (p .0 .counted) .0 in
@@ -54,7 +54,7 @@ pub written-small : (s : Script) (out : List ℕ) (w : Written) (out′ : List �
 unfolding Puts writtenOf mapped
 written-small s out w out′ h = go (writing s (length out)) (writing-ends s (length out)) (h .0)
   where
-    go : (z : Result (List ℕ)) → Ends Positive (λ bytes. Listed s (length out) × (bytes ≡ encoded s)) z → w ≡ writtenOf (mapped length z) → w .bytes ≤ 11 + 3 * eventLimit
+    go : (z : Result (List ℕ)) → Satisfies Positive (λ bytes. Listed s (length out) × (bytes ≡ encoded s)) z → w ≡ writtenOf (mapped length z) → w .bytes ≤ 11 + 3 * eventLimit
     go (refused number) t e = omega (arith, ap (λ (x : Written). x .bytes) e)
     go (accepted bytes) (accepts p) e =
         let t = events-tell (length (s .kinds)) (length (s .operands)) (p .0 .counted) in

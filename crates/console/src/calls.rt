@@ -7,7 +7,7 @@ ghost use Rattle.model.specs.Walks.{WalksEnd};
 ghost use Rattle.layout.specs.Stored.{storedNetwork};
 ghost use Rattle.console.specs.Packed.{packed, answerOf, countOf};
 ghost use Rattle.console.specs.Console.{calling, Ends, tracing};
-ghost use Rattle.console.specs.Made.{MadeByCalls};
+ghost use Rattle.console.specs.Made.{MadeBytes};
 use crate::finish;
 use crate::not_memory;
 use crate::packed;
@@ -119,7 +119,7 @@ pub extern "C" fn srp_duplicate(memory: &mut [u8], k: usize) -> u64
 #[no_mangle]
 pub extern "C" fn srp_trace(memory: &[u8], a: usize, t: usize) -> u64
     ensures traced { λ r. ⌜ r ≡ packed (tracing (now (memory .entry)) a t .answer) (tracing (now (memory .entry)) a t .hops) ⌝ }
-    ensures loop_free { λ r. ⌜ (MadeByCalls (now (memory .entry)) → a < storedNetwork (now (memory .entry)) .n → t < storedNetwork (now (memory .entry)) .n → a ≢ t
+    ensures loop_free { λ r. ⌜ (MadeBytes (now (memory .entry)) → a < storedNetwork (now (memory .entry)) .n → t < storedNetwork (now (memory .entry)) .n → a ≢ t
         → WalksEnd (storedNetwork (now (memory .entry))) a t (traced (answerOf r) (countOf r))) ⌝ }
 {
     if not_memory(memory) {

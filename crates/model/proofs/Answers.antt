@@ -6,7 +6,7 @@ use lib.Dec.{ltb, leb, eqb}
 use Rattle.base.proofs.Booleans.{choose}
 use Rattle.base.specs.Numbers.{maxU32}
 use Rattle.base.specs.Results.{Result, refused, accepted, refuse_when_otherwise_, isRefusal}
-use Rattle.base.proofs.Results.{Ends, accepts, ends-refuse, ends-refused, ends-accepted}
+use Rattle.base.proofs.Results.{Satisfies, accepts, satisfies-refuse, satisfies-refused, satisfies-accepted}
 use Rattle.label.specs.declared.Label.{Label}
 use Rattle.label.specs.Label.{Outcome, took, gave, above, fitting, next, split, newLabel}
 use Rattle.model.specs.Memory.{Request, Reply, Body, request, reply, error, other, Network, names, labelAt, rowAt, recordAt, setRecord}
@@ -19,10 +19,10 @@ record Answers (e : Effect) : Type 0 where
   tells : isRefusal (e .answer) ≡ false
 
 abbrev Tells : Result Effect → Type 0
-Tells z = Ends (λ number. isRefusal number ≡ true) Answers z
+Tells z = Satisfies (λ number. isRefusal number ≡ true) Answers z
 
 refuse-tells : (number : ℕ) (case : Bool) (rest : Result Effect) → isRefusal number ≡ true → Tells rest → Tells (refuse number when case otherwise rest)
-refuse-tells number case rest h k = ends-refuse number case rest h (λ e. k)
+refuse-tells number case rest h k = satisfies-refuse number case rest h (λ e. k)
 
 limited-tells : (e : Effect) → Answers e → Tells (limited e)
 unfolding limited isRefusal
@@ -115,7 +115,7 @@ step-tells (Duplicate k) net = refuse-tells 1 _ _ refl (refuse-tells 6 _ _ refl 
 
 -- So the answer tells how a call ended.
 pub refused-tells : (c : Call) (net : Network) (number : ℕ) → step c net ≡ refused number → isRefusal number ≡ true
-refused-tells c net number e = ends-refused (step c net) number (step-tells c net) e
+refused-tells c net number e = satisfies-refused (step c net) number (step-tells c net) e
 
 pub accepted-tells : (c : Call) (net : Network) (e : Effect) → step c net ≡ accepted e → isRefusal (e .answer) ≡ false
-accepted-tells c net e h = ends-accepted (step c net) e (step-tells c net) h .tells
+accepted-tells c net e h = satisfies-accepted (step c net) e (step-tells c net) h .tells

@@ -67,7 +67,7 @@ eventLimit = 4_096
 unfoldable pub notEvents : (kinds operands : ℕ) → Bool
 notEvents kinds operands = ltb eventLimit kinds || not (eqb operands (2 * kinds))
 
--- 11, of any of them.
+-- 11 turns none of them down.
 unfoldable pub allEvents : (kinds operands : List ℕ) → Bool
 allEvents kinds operands = allBelow (length kinds) (λ i. not (notEvent (getD kinds i 0) (getD operands (2 * i + 1) 0)))
 

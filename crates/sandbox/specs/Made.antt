@@ -9,12 +9,12 @@ use Rattle.network.specs.View.{view}
 use Rattle.steps.specs.Called.{done, Called}
 
 -- A call on this memory may end so, as its contract says.
-abbrev pub CallEnds : Call → (memory : Memory) → (answer : ℕ) → (next : Memory) → Type 0
-CallEnds c memory answer next = (sent : ℕ) × Called memory (step c (view memory)) (done next answer sent)
+abbrev pub LeavesMemory : Call → (memory : Memory) → (answer : ℕ) → (next : Memory) → Type 0
+LeavesMemory c memory answer next = (sent : ℕ) × Called memory (step c (view memory)) (done next answer sent)
 
 -- An accepted Open and then a list of calls, each on the memory that the one before gave back, made this memory.
-abbrev pub MadeByCalls : Memory → Type 0
-MadeByCalls memory = Made CallEnds memory
+abbrev pub MadeMemory : Memory → Type 0
+MadeMemory memory = Made LeavesMemory memory
 
 -- What demand 3 asks of the walks from a for t in this memory, and of what was told of the tracer's own.
 unfoldable pub WalksEndIn : Memory → (a t : ℕ) → Traced → Type 0

@@ -4,7 +4,7 @@ ghost use Rattle.model.specs.Calls.{Open, Up, Down, Solicit, GiveUp, Expire, De
 ghost use Rattle.model.specs.Walks.{Reached};
 ghost use Rattle.network.specs.View.{view};
 ghost use Rattle.steps.specs.Called.{Called};
-ghost use Rattle.sandbox.specs.Made.{MadeByCalls, WalksEndIn};
+ghost use Rattle.sandbox.specs.Made.{MadeMemory, WalksEndIn};
 use network::Memory;
 use network::opening::fresh;
 use network::range::in_range;
@@ -162,7 +162,7 @@ pub fn duplicate(memory: Memory, k: usize) -> Done
 // Trace: the walk from a for t. It changes nothing. No walk goes in a circle in memory that the calls above made.
 pub fn trace(memory: Memory, a: usize, t: usize) -> Traced
     ensures traced { λ r. ⌜ traced (r .answer) (r .hops) ≡ trace (view memory) a t ⌝ }
-    ensures loop_free { λ r. ⌜ (MadeByCalls memory → WalksEndIn memory a t (traced (r .answer) (r .hops))) ⌝ }
+    ensures loop_free { λ r. ⌜ (MadeMemory memory → WalksEndIn memory a t (traced (r .answer) (r .hops))) ⌝ }
     ensures reached { λ r. ⌜ (Reached (view memory) → WalksEndIn memory a t (traced (r .answer) (r .hops))) ⌝ }
 {
     if !in_range(memory) {

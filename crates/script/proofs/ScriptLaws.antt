@@ -11,7 +11,7 @@ use native.Mathlib.Omega.{arith}
 use borrow.Author.Tests.{le-ltb, ltb-false, eqb-true, not-false}
 use Rattle.base.specs.Results.{Result, refused, accepted, refuse_when_otherwise_, mapped, _andThen_}
 use Rattle.base.proofs.Booleans.{neither}
-use Rattle.base.proofs.Results.{refuse-holds, refuse-passes, Ends, refuses, accepts, ends-refuse, ends-accepted}
+use Rattle.base.proofs.Results.{refuse-holds, refuse-passes, Satisfies, refuses, accepts, satisfies-refuse, satisfies-accepted}
 use Rattle.codec.specs.Bytes.{littleEndian, number, over, putInto, Puts}
 use Rattle.codec.proofs.ByteLaws.{sets-append, sets-over}
 use Rattle.model.specs.Calls.{notOpening}
@@ -103,10 +103,10 @@ module _ (bytes : List ℕ) where
   abbrev pub Parsed : Script → Type 0
   Parsed s = Tested bytes × (s ≡ decoded bytes)
 
-  parsing-ends : Ends Positive Parsed (parsing bytes)
+  parsing-ends : Satisfies Positive Parsed (parsing bytes)
   unfolding parsing
   parsing-ends =
-      ends-refuse 9 _ _ (omega arith) (λ long. ends-refuse 10 _ _ (omega arith) (λ counted. ends-refuse 1 _ _ (omega arith) (λ opens. ends-refuse 11 _ _ (omega arith) (λ all.
+      satisfies-refuse 9 _ _ (omega arith) (λ long. satisfies-refuse 10 _ _ (omega arith) (λ counted. satisfies-refuse 1 _ _ (omega arith) (λ opens. satisfies-refuse 11 _ _ (omega arith) (λ all.
       accepts (record { long = long; counted = counted; opens = opens; all = not-false _ all }, refl)))))
 
   -- The script is read into arrays of so many places.
@@ -128,23 +128,23 @@ module _ (bytes : List ℕ) where
     pub reading-accepted : Tested bytes → noRoom (length (decoded bytes .kinds)) kinds operands ≡ false → reading bytes kinds operands ≡ accepted (decoded bytes)
     reading-accepted t h = reading-placed t ∙ refuse-passes 12 _ _ h
 
-    pub reading-ends : Ends Positive Parsed (reading bytes kinds operands)
+    pub reading-ends : Satisfies Positive Parsed (reading bytes kinds operands)
     unfolding reading _andThen_
     reading-ends = go (parsing bytes) parsing-ends
       where
-        go : (z : Result Script) → Ends Positive Parsed z → Ends Positive Parsed (z andThen placed)
+        go : (z : Result Script) → Satisfies Positive Parsed z → Satisfies Positive Parsed (z andThen placed)
         go (refused number) (refuses h) = refuses h
-        go (accepted s) (accepts h) = ends-refuse 12 _ _ (omega arith) (λ e. accepts h)
+        go (accepted s) (accepts h) = satisfies-refuse 12 _ _ (omega arith) (λ e. accepts h)
 
     pub reading-tells : (s : Script) → reading bytes kinds operands ≡ accepted s → Parsed s
-    reading-tells s e = ends-accepted (reading bytes kinds operands) s reading-ends e
+    reading-tells s e = satisfies-accepted (reading bytes kinds operands) s reading-ends e
 
   -- With room for every script 12 is never given.
   pub reading-whole : reading bytes eventLimit (2 * eventLimit) ≡ parsing bytes
   unfolding reading _andThen_
   reading-whole = go (parsing bytes) parsing-ends
     where
-      go : (z : Result Script) → Ends Positive Parsed z → z andThen placed eventLimit (2 * eventLimit) ≡ z
+      go : (z : Result Script) → Satisfies Positive Parsed z → z andThen placed eventLimit (2 * eventLimit) ≡ z
       go (refused number) h = refl
       go (accepted s) (accepts h) =
           refuse-passes 12 _ _ (ap (λ (x : Script). noRoom (length (x .kinds)) eventLimit (2 * eventLimit)) (h .1) ∙ whole-room (h .0 .counted))
@@ -169,11 +169,11 @@ module _ (z : Result Script) (r : Found) (e : r ≡ foundOf z) where
       go (refused number) q = ap refused (sym (ap (λ (x : Found). x .answer) q))
       go (accepted s) q = absurd (h (ap (λ (x : Found). x .answer) q))
 
-  pub found-accepted : (bytes : List ℕ) → Ends Positive (Parsed bytes) z → r .answer ≡ 0 → Tested bytes × (z ≡ accepted (decoded bytes))
+  pub found-accepted : (bytes : List ℕ) → Satisfies Positive (Parsed bytes) z → r .answer ≡ 0 → Tested bytes × (z ≡ accepted (decoded bytes))
   unfolding foundOf
   found-accepted bytes t h = go z t e
     where
-      go : (y : Result Script) → Ends Positive (Parsed bytes) y → r ≡ foundOf y → Tested bytes × (y ≡ accepted (decoded bytes))
+      go : (y : Result Script) → Satisfies Positive (Parsed bytes) y → r ≡ foundOf y → Tested bytes × (y ≡ accepted (decoded bytes))
       go (refused number) (refuses p) q = absurd (omega (arith, p, h, ap (λ (x : Found). x .answer) q))
       go (accepted s) (accepts p) q = (p .0, ap accepted (p .1))
 
@@ -186,7 +186,7 @@ module _ (z : Result Script) (r : Found) (e : r ≡ foundOf z) where
       go (accepted s) q = ap (λ (x : Found). x .start) q
 
 -- What is known where the bytes were parsed, with the parts that the code takes.
-pub record Found-in (bytes : List ℕ) (r : Found) : Type 0 where
+pub record FoundIn (bytes : List ℕ) (r : Found) : Type 0 where
   pub tested : Tested bytes
   pub is-found : r ≡ foundOf (accepted (decoded bytes))
   pub count : r .events ≡ eventCount bytes
@@ -195,7 +195,7 @@ pub record Found-in (bytes : List ℕ) (r : Found) : Type 0 where
   pub kinds : take (11 + r .events - 11) (drop 11 bytes) ≡ decoded bytes .kinds
   pub operands : take (length bytes - (11 + r .events)) (drop (11 + r .events) bytes) ≡ decoded bytes .operands
 
-pub found-in : (bytes : List ℕ) (z : Result Script) (r : Found) → Ends Positive (Parsed bytes) z → r ≡ foundOf z → r .answer ≡ 0 → Found-in bytes r
+pub found-in : (bytes : List ℕ) (z : Result Script) (r : Found) → Satisfies Positive (Parsed bytes) z → r ≡ foundOf z → r .answer ≡ 0 → FoundIn bytes r
 unfolding foundOf
 found-in bytes z r t e h =
     let w = found-accepted z r e bytes t h in
@@ -212,7 +212,7 @@ found-in bytes z r t e h =
       operands = operands-part bytes (r .events) k (w .0 .counted);
     }
 
-pub parsed-in : (bytes : List ℕ) (r : Found) → r ≡ foundOf (parsing bytes) → r .answer ≡ 0 → Found-in bytes r
+pub parsed-in : (bytes : List ℕ) (r : Found) → r ≡ foundOf (parsing bytes) → r .answer ≡ 0 → FoundIn bytes r
 parsed-in bytes r e h = found-in bytes (parsing bytes) r (parsing-ends bytes) e h
 
 -- The contract of reading, by how it ends.
@@ -232,7 +232,7 @@ module _ (bytes kinds operands : List ℕ) (r : Found) (kinds′ operands′ : L
     (h : Reads foundOf (reading bytes (length kinds) (length operands)) kinds operands r kinds′ operands′) where
   pub record InArrays : Type 0 where
     pub ended : reading bytes (length kinds) (length operands) ≡ accepted (decoded bytes)
-    pub told : Found-in bytes r
+    pub told : FoundIn bytes r
     pub kinds-after : kinds′ ≡ over (decoded bytes .kinds) kinds
     pub operands-after : operands′ ≡ over (decoded bytes .operands) operands
 
@@ -261,14 +261,14 @@ module _ (s : Script) where
   writing-accepted room l =
       refuse-passes 10 _ _ (l .counted) ∙ refuse-passes 1 _ _ (l .opens) ∙ refuse-passes 11 _ _ (ap not (l .all)) ∙ refuse-passes 12 _ _ (l .fits)
 
-  pub writing-ends : (room : ℕ) → Ends Positive (λ bytes. Listed room × (bytes ≡ encoded s)) (writing s room)
+  pub writing-ends : (room : ℕ) → Satisfies Positive (λ bytes. Listed room × (bytes ≡ encoded s)) (writing s room)
   unfolding writing
   writing-ends room =
-      ends-refuse 10 _ _ (omega arith) (λ counted. ends-refuse 1 _ _ (omega arith) (λ opens. ends-refuse 11 _ _ (omega arith) (λ all. ends-refuse 12 _ _ (omega arith) (λ fits.
+      satisfies-refuse 10 _ _ (omega arith) (λ counted. satisfies-refuse 1 _ _ (omega arith) (λ opens. satisfies-refuse 11 _ _ (omega arith) (λ all. satisfies-refuse 12 _ _ (omega arith) (λ fits.
       accepts (record { counted = counted; opens = opens; all = not-false _ all; fits = fits }, refl)))))
 
   pub writing-tells : (room : ℕ) (bytes : List ℕ) → writing s room ≡ accepted bytes → Listed room × (bytes ≡ encoded s)
-  writing-tells room bytes e = ends-accepted (writing s room) bytes (writing-ends room) e
+  writing-tells room bytes e = satisfies-accepted (writing s room) bytes (writing-ends room) e
 
   -- 11 bytes stand before the kinds and the operands.
   encoded-length : length (encoded s) ≡ 11 + length (s .kinds) + length (s .operands)
@@ -292,7 +292,7 @@ module _ (s : Script) where
   unfolding Puts writtenOf mapped putInto
   puts-script out out′ r h z = go (writing s (length out)) (writing-ends (length out)) h
     where
-      go : (y : Result (List ℕ)) → Ends Positive (λ bytes. Listed (length out) × (bytes ≡ encoded s)) y → (r ≡ writtenOf (mapped length y)) × (out′ ≡ putInto y out)
+      go : (y : Result (List ℕ)) → Satisfies Positive (λ bytes. Listed (length out) × (bytes ≡ encoded s)) y → (r ≡ writtenOf (mapped length y)) × (out′ ≡ putInto y out)
           → (y ≡ accepted (encoded s)) × (r .bytes ≡ length (encoded s)) × (out′ ≡ over (encoded s) out)
       go (refused number) (refuses p) q = absurd (omega (arith, p, z, ap (λ (x : Written). x .answer) (q .0)))
       go (accepted bytes) (accepts p) q =

@@ -11,7 +11,7 @@ use Rattle.script.specs.declared.Found.{Found}
 use Rattle.script.specs.Script.{decoded, noRoom}
 use Rattle.script.specs.Contracts.{foundOf}
 use Rattle.script.proofs.ScriptLaws.{decoded-fits, reading-refused, reading-12, reading-accepted}
-use Rattle.script.proofs.ScriptLaws.{found-refused, Found-in, parsed-in, reads-refused, reads-accepted}
+use Rattle.script.proofs.ScriptLaws.{found-refused, FoundIn, parsed-in, reads-refused, reads-accepted}
 use Rattle.script.proofs.RoundTrip.{HasRead, WrittenBack, with-written-back}
 use Rattle.script.proofs.read.Statement.{statement}
 use Rattle.script.proofs.read.Tie as tie
@@ -32,7 +32,7 @@ back c kinds operands r =
     with-written-back (args .script .now) (args .kinds .now) (args .operands .now) kinds operands r (c .shared-slice-known .given)
 
 -- Past the tests of parsing.
-past : (c : tie.Else1) → Found-in (first (c .before) .args .script .now) (c .before .parse .result)
+past : (c : tie.Else1) → FoundIn (first (c .before) .args .script .now) (c .before .parse .result)
 past c = parsed-in _ (c .before .parse .result) (c .before .parse .ensures) (c .if1 .left)
 
 -- The test for 12.
