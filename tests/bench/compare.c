@@ -28,15 +28,21 @@ enum { ROUNDS = 101, CALLS = 100, STATIONS = 16, SEEKERS = 6, EVENTS = 4096 };
 typedef uint64_t opening(uint8_t *memory, size_t length, size_t n, uint64_t start);
 typedef uint64_t call_on_pair(uint8_t *memory, size_t length, size_t a, size_t b);
 typedef uint64_t call_on_packet(uint8_t *memory, size_t length, size_t k);
+typedef uint64_t reading(const uint8_t *script, size_t length, uint8_t *kinds, size_t kinds_length, uint8_t *operands, size_t operands_length);
+typedef uint64_t writing(size_t n, uint64_t start, const uint8_t *kinds, size_t kinds_length, const uint8_t *operands, size_t operands_length,
+                         uint8_t *out, size_t out_length);
 
 struct build {
     const char *program;
     opening *open;
     call_on_pair *up, *solicit;
     call_on_packet *deliver, *lose, *duplicate;
+    reading *read_script;
+    writing *write_script;
 };
 
 static uint8_t network[SRP_LENGTH]; /* what each timed call starts from */
+static uint8_t events[11 + 3 * EVENTS] = {STATIONS, EVENTS & 255, EVENTS >> 8, 1}; /* a script */
 static const char *script;
 
 static void fail(const char *what) {
@@ -59,7 +65,9 @@ static struct build loaded(const char *path, const char *program) {
                           found(library, "srp_solicit"),
                           found(library, "srp_deliver"),
                           found(library, "srp_lose"),
-                          found(library, "srp_duplicate")};
+                          found(library, "srp_duplicate"),
+                          found(library, "srp_read_script"),
+                          found(library, "srp_write_script")};
 }
 
 static double now(void) {
@@ -78,27 +86,26 @@ static void fill_network(const struct build *b) {
         if (SRP_REFUSED(b->solicit(network, SRP_LENGTH, i, STATIONS - 1))) fail("solicit");
 }
 
-static void put_event(uint8_t *bytes, size_t index, size_t kind, size_t a, size_t b) {
-    bytes[11 + index] = (uint8_t)kind;
-    bytes[11 + EVENTS + 2 * index] = (uint8_t)a;
-    bytes[11 + EVENTS + 2 * index + 1] = (uint8_t)b;
+static void put_event(size_t index, size_t kind, size_t a, size_t b) {
+    events[11 + index] = (uint8_t)kind;
+    events[11 + EVENTS + 2 * index] = (uint8_t)a;
+    events[11 + EVENTS + 2 * index + 1] = (uint8_t)b;
 }
 
 /* A script of as many events as may be: links, requests, and packets that arrive, are lost and are doubled. */
 static void write_script(void) {
-    static uint8_t bytes[11 + 3 * EVENTS] = {STATIONS, EVENTS & 255, EVENTS >> 8, 1};
     uint64_t random = 1;
     size_t made = 0;
     for (size_t a = 0; a < STATIONS; a++)
-        for (size_t b = a + 1; b < STATIONS; b += 3) put_event(bytes, made++, 1, a, b);
+        for (size_t b = a + 1; b < STATIONS; b += 3) put_event(made++, 1, a, b);
     while (made < EVENTS) {
         random = random * 6364136223846793005u + 1442695040888963407u;
         size_t choice = random >> 33 & 15, a = random >> 37 & 15, b = random >> 41 & 15;
-        if (choice == 0) put_event(bytes, made++, 3, a, b);
-        else put_event(bytes, made++, choice < 10 ? 6 : choice < 13 ? 7 : 8, a / 2, 0);
+        if (choice == 0) put_event(made++, 3, a, b);
+        else put_event(made++, choice < 10 ? 6 : choice < 13 ? 7 : 8, a / 2, 0);
     }
     FILE *file = fopen(script, "wb");
-    if (!file || fwrite(bytes, sizeof bytes, 1, file) != 1 || fclose(file)) fail("the script");
+    if (!file || fwrite(events, sizeof events, 1, file) != 1 || fclose(file)) fail("the script");
 }
 
 /* Nanoseconds for a call on a copy of the network, the copy included. */
@@ -117,6 +124,23 @@ static double answered(const struct build *b) { return timed_call(b->deliver, ST
 static double first_lost(const struct build *b) { return timed_call(b->lose, 0); }
 static double last_lost(const struct build *b) { return timed_call(b->lose, SEEKERS * (STATIONS - 1) - 1); }
 static double first_doubled(const struct build *b) { return timed_call(b->duplicate, 0); }
+
+/* Nanoseconds for a script of 4,096 events that is read, and for one that is written. The arrays are not cleared. */
+static double script_read(const struct build *b) {
+    static uint8_t kinds[EVENTS], operands[2 * EVENTS];
+    double began = now();
+    for (int i = 0; i < CALLS; i++)
+        if (SRP_REFUSED(b->read_script(events, sizeof events, kinds, sizeof kinds, operands, sizeof operands))) fail("read_script");
+    return (now() - began) / CALLS;
+}
+
+static double script_written(const struct build *b) {
+    static uint8_t out[sizeof events];
+    double began = now();
+    for (int i = 0; i < CALLS; i++)
+        if (SRP_REFUSED(b->write_script(STATIONS, 1, events + 11, EVENTS, events + 11 + EVENTS, 2 * EVENTS, out, sizeof out))) fail("write_script");
+    return (now() - began) / CALLS;
+}
 
 /* Nanoseconds for a whole run of the program. */
 static double rehearsed(const struct build *b) {
@@ -163,6 +187,8 @@ int main(int count, char **arguments) {
     row("`srp_lose` of the first of 90 packets", first_lost, &this, &other);
     row("`srp_lose` of the last", last_lost, &this, &other);
     row("`srp_duplicate` of the first", first_doubled, &this, &other);
+    row("a script of 4,096 events, read", script_read, &this, &other);
+    row("a script of 4,096 events, written", script_written, &this, &other);
     row("a rehearsal of 4,096 events", rehearsed, &this, &other);
     return 0;
 }

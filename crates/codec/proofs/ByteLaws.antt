@@ -3,7 +3,7 @@ use Prim.Native.Nat.{ℕ, zero, suc, _+_, _*_, _/_, _%_, _^_, _≤_, _<_}
 use mathlib.Core.Path.{_≡_, refl, sym, ap, _∙_}
 use mathlib.Core.List.{List, [], _∷_, _++_}
 use lib.ListN.{length, getD, take, drop, set, length-append}
-use lib.Seq.{sets, sets-eq, set-comm, take-append-seam, take-at}
+use lib.Seq.{sets, sets-eq, set-comm, take-at}
 use native.Mathlib.Nat.{pow-suc, add-zero, zero-add}
 use native.Mathlib.Omega.{arith}
 use mir.Syntax.{w8}
@@ -36,9 +36,6 @@ sets-apart l i j xs (y ∷ ys) h =
 pub sets-over : (l written : List ℕ) → length written ≤ length l → sets l 0 written ≡ over written l
 unfolding over
 sets-over l written h = sets-eq written l 0 (omega arith) ∙ rw zero-add
-
-pub take-sets : {A : Type 0} (l xs : List A) → length xs ≤ length l → take (length xs) (sets l 0 xs) ≡ xs
-take-sets l xs h = ap (take (length xs)) (sets-eq xs l 0 (omega arith)) ∙ take-append-seam xs _
 
 -- Bytes put at the start of a lent array by a call that was turned down, and by one that was accepted.
 module _ {T : Type 0} (tell : Result ℕ → T) (z : Result (List ℕ)) (out : List ℕ) (told : T) where

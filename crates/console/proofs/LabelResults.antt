@@ -8,7 +8,7 @@ use Rattle.base.specs.Choice.{if_then_else_}
 use Rattle.base.proofs.Booleans.{both}
 use Rattle.label.specs.declared.Label.{Label}
 use Rattle.label.specs.Label.{inRange, took, gave, newLabel, newLabelCall}
-use Rattle.label.proofs.Range.{InRange, is-unassigned, is-assigned, range-cases}
+use Rattle.label.proofs.Range.{range-denominator}
 use Rattle.label.proofs.New.{new-label-maintains, new-number}
 use Rattle.console.specs.Packed.{packed, outcomeIn}
 use Rattle.console.proofs.ConsoleLaws.{unpacked}
@@ -32,8 +32,4 @@ module _ (a c v g : Label) (h : newLabelCall a c v ≡ took g) where
       let number : g .s .0 ≡ v .s .0 = new-number a c v g (two .0) (two .1) (firsts .1) (ranged .1) in
       let order = new-label-maintains a c v g (two .0) (two .1) (firsts .1) (ranged .1) in
       let halves = unpacked (g .m) (g .d) small in
-      rw (halves .0, halves .1, ne-eqb (g .d) 0 (λ z. positive (range-cases g (order .ranged)) z), ← number)
-    where
-      positive : InRange g → g .d ≡ 0 → ⊥
-      positive (is-unassigned s m d) z = omega arith
-      positive (is-assigned s m) z = omega arith
+      rw (halves .0, halves .1, ne-eqb (g .d) 0 (λ z. omega (arith, range-denominator g (order .ranged))), ← number)

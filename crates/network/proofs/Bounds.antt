@@ -2,7 +2,9 @@
 -- at the parameter's place). A field that moves changes this file alone.
 use Prim.Native.Nat.{_^_, _<_}
 use mathlib.Core.Path.{_≡_, _∙_}
+use mathlib.Core.List.{List}
 use lib.ListN.{length, length-map}
+use mir.Val.{Val}
 use denote.Laws.{Is}
 use denote.Struct.Laws.{vals}
 use Rattle.base.proofs.Lists.{unmapped}
@@ -16,7 +18,6 @@ use Rattle.network.specs.declared.Air.{Air}
 use Rattle.network.specs.declared.Memory.{Memory}
 use Rattle.network.specs.View.{rowOf, recordOf, labelOf, view}
 use Rattle.label.proofs.Label as label
-use Rattle.label.proofs.Label.Laws as label′
 use Rattle.network.proofs.Packet as packet
 use Rattle.network.proofs.Packet.Laws as packet′
 use Rattle.network.proofs.Row as row
@@ -27,8 +28,8 @@ use Rattle.network.proofs.Memory as memory
 use Rattle.network.proofs.Memory.Laws as memory′
 
 -- That machine values stand for a label, a packet, a row, an air, a memory.
-abbrev pub ValidLabel : Label → Type 0
-ValidLabel l = Is label.the-row l (vals label.the-type label′.the-laws l)
+abbrev pub ValidLabel : Label → List Val → Type 0
+ValidLabel l values = Is label.the-row l values
 
 abbrev pub ValidPacket : Packet → Type 0
 ValidPacket p = Is packet.the-row p (vals packet.the-type packet′.the-laws p)
@@ -47,8 +48,8 @@ pub record LabelBounds (l : Label) : Type 0 where
   pub m-below : l .m < 2 ^ 32
   pub d-below : l .d < 2 ^ 32
 
-pub label-bounds : (l : Label) → ValidLabel l → LabelBounds l
-label-bounds l valid = record { s-below = valid .1 .1 .0 .1 .1 .0 .1; m-below = valid .1 .1 .1 .0 .1; d-below = valid .1 .1 .1 .1 .0 .1 }
+pub label-bounds : (l : Label) (values : List Val) → ValidLabel l values → LabelBounds l
+label-bounds l values valid = record { s-below = valid .1 .1 .0 .1 .1 .0 .1; m-below = valid .1 .1 .1 .0 .1; d-below = valid .1 .1 .1 .1 .0 .1 }
 
 pub record PacketBounds (p : Packet) : Type 0 where
   pub label : LabelBounds (p .label)
@@ -56,8 +57,8 @@ pub record PacketBounds (p : Packet) : Type 0 where
   pub mask-below : p .mask < 2 ^ 16
 
 pub packet-bounds : (p : Packet) → ValidPacket p → PacketBounds p
-packet-bounds p valid = let l = valid .1 .1 .0 .1 .1 in record {
-  label = record { s-below = l .0 .1 .1 .0 .1; m-below = l .1 .0 .1; d-below = l .1 .1 .0 .1 };
+packet-bounds p valid = record {
+  label = label-bounds (p .label) _ (valid .1 .1 .0);
   number-below = valid .1 .1 .1 .0 .1 .1 .0 .1;
   mask-below = valid .1 .1 .1 .1 .0 .1;
 }
@@ -79,16 +80,12 @@ pub record MemoryLengths (m : Memory) : Type 0 where
   pub rows-length : length (m .rows) ≡ 256
   pub records-length : length (m .records) ≡ 256
   pub sought-length : length (m .sought) ≡ 16
-  pub active-length : length (m .active) ≡ 16
-  pub links-length : length (m .links) ≡ 256
 
 pub memory-lengths : (m : Memory) → ValidMemory m → MemoryLengths m
 memory-lengths m valid = record {
   rows-length = unmapped _ (m .rows) 256 (valid .1 .1 .1 .1 .1 .0 .1 .0 .1);
   records-length = unmapped _ (m .records) 256 (valid .1 .1 .1 .1 .1 .1 .0 .1 .0 .1);
   sought-length = unmapped _ (m .sought) 16 (valid .1 .1 .1 .1 .1 .1 .1 .1 .1 .0 .1 .0 .1);
-  active-length = unmapped _ (m .active) 16 (valid .1 .1 .1 .1 .1 .1 .1 .1 .1 .1 .0 .1 .0 .1);
-  links-length = unmapped _ (m .links) 256 (valid .1 .1 .1 .1 .1 .1 .1 .1 .1 .1 .1 .0 .1 .0 .1);
 }
 
 -- So the model's tables have their sizes.

@@ -37,7 +37,7 @@ returns c =
     let first = second .before .before .before .before in
     let start = first .before .before .before in
     let args = start .args in
-    let fits = label-bounds (args .l) (start .good .1 .1 .0) in (
+    let fits = label-bounds (args .l) _ (start .good .1 .1 .0) in (
       third .put-number3 .ensures ∙ rw (second .put-number2 .ensures, first .put-number .ensures) (label-put (args .out .now) (args .at) (args .l)),
       record { s = fits .s-below; m = fits .m-below; d = fits .d-below },
     )
