@@ -8,9 +8,10 @@ pub mod places;
 pub mod range;
 pub mod rows;
 
-// The most successors of a row, and the most packets in the air.
+// The most successors of a row.
 pub const ROW_LIMIT: u8 = 4;
 
+// The most packets in the air.
 pub const AIR_LIMIT: u8 = 128;
 
 // A source's request number.
