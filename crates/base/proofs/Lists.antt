@@ -169,27 +169,16 @@ some-more t (y ∷ l) x = ap (λ (b : Bool). t y || b) (some-more t l x) ∙ sym
 eqb-sym : (a b : ℕ) → eqb a b ≡ eqb b a
 eqb-sym a b = iff _ _ (λ e. eq-eqb b a (sym (eqb-true a b e))) (λ e. eq-eqb a b (sym (eqb-true b a e)))
 
--- Where the elements that pass leave, the list is as long as before if none passes, and shorter if one does.
-module _ {A : Type 0} (f : A → Bool) where
-  pub none-left : (l : List A) → length (keep (λ x. not (f x)) l) ≡ length l → someIn f l ≡ false
-  unfolding keep someIn
-  none-left [] e = refl
-  none-left (x ∷ l) e = go (f x) (λ q. none-left l q) e
-    where
-      go : (b : Bool) → (length (keep (λ x. not (f x)) l) ≡ length l → someIn f l ≡ false)
-          → length (if not b then x ∷ keep (λ x. not (f x)) l else keep (λ x. not (f x)) l) ≡ suc (length l) → b || someIn f l ≡ false
-      go true ih q = let h = keep-length (λ x. not (f x)) l in absurd (omega arith)
-      go false ih q = ih (omega arith)
-
-  pub some-left : (l : List A) → length (keep (λ x. not (f x)) l) ≢ length l → someIn f l ≡ true
-  unfolding keep someIn
-  some-left [] n = absurd (n refl)
-  some-left (x ∷ l) n = go (f x) (λ q. some-left l q) n
-    where
-      go : (b : Bool) → (length (keep (λ x. not (f x)) l) ≢ length l → someIn f l ≡ true)
-          → length (if not b then x ∷ keep (λ x. not (f x)) l else keep (λ x. not (f x)) l) ≢ suc (length l) → b || someIn f l ≡ true
-      go true ih q = refl
-      go false ih q = ih (λ e. q (ap suc e))
+-- Nothing is left where every element leaves.
+pub none-kept : {A : Type 0} (f : A → Bool) (l : List A) → isEmpty (keep (λ x. not (f x)) l) ≡ allIn f l
+unfolding isEmpty keep allIn
+none-kept f [] = refl
+none-kept f (x ∷ l) = go (f x) (none-kept f l)
+  where
+    go : (b : Bool) → isEmpty (keep (λ x. not (f x)) l) ≡ allIn f l
+        → isEmpty (if not b then x ∷ keep (λ x. not (f x)) l else keep (λ x. not (f x)) l) ≡ b && allIn f l
+    go true e = e
+    go false e = refl
 
 -- A list in which no number stands twice, as the absence of its first from the rest.
 pub distinct-cons : (x : ℕ) (l : List ℕ) → (List·Memᴰ x l → ⊥) → distinct l ≡ true → distinct (x ∷ l) ≡ true

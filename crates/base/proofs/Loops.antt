@@ -316,6 +316,13 @@ module _ {A : Type 0} (t : A → Bool) where
       go true ih h = absurd (omega arith)
       go false ih h = ih (omega arith)
 
+  pub index-some : (l : List A) → ltb (indexOf t l) (length l) ≡ someIn t l
+  index-some l = go (ltb (indexOf t l) (length l)) refl
+    where
+      go : (b : Bool) → ltb (indexOf t l) (length l) ≡ b → b ≡ someIn t l
+      go true e = sym (index-within l (ltb-true _ _ e))
+      go false e = sym (index-outside l (ltb-false _ _ e))
+
   -- A loop that looks for it: none of the k places before passes.
   module _ (c : ℕ) (f : ℕ → A) (k : ℕ) (none : allBelow k (λ i. not (t (f i))) ≡ true) where
     failed : (i : ℕ) → i < k → k ≤ c → t (getD (tabulate c f) i (f 0)) ≡ false

@@ -18,7 +18,7 @@ use Rattle.model.specs.Memory.{Successor, Row, Record, Body, request, reply, er
 use Rattle.network.specs.declared.Row as code
 use Rattle.network.specs.declared.Air.{Air}
 use Rattle.network.specs.View as view
-use Rattle.network.specs.View.{entryOf, rowOf, bodyOf, packetOf, airOf}
+use Rattle.network.specs.View.{entryOf, rowOf, bodyOf, packetOf, packetsOf, airOf}
 use Rattle.network.proofs.Bounds.{RowLengths}
 use Rattle.network.proofs.PacketLaws.{packetIn}
 use Rattle.layout.specs.Written.{flag, padded, labelBytes, zeroSuccessor, successorBytes, rowBytes, recordBytes, fieldBytes, bodyBytes, packetBytes}
@@ -121,7 +121,7 @@ unfolding packetOf bodyOf zeroPacket
 zero-packet = refl
 
 pub air-past : (air : Air) → length (air .packets) ≡ airLimit → (k : ℕ) → airLimit ≤ k → getD (airOf air) k zeroPacket ≡ zeroPacket
-unfolding airOf
+unfolding packetsOf
 air-past air room k h =
     let none : packetIn (air .packets) k ≡ zeroPacket =
     ap packetOf (List·getD-eq-default (air .packets) view.zeroPacket {n = k} (omega (arith, room))) ∙ zero-packet in

@@ -19,7 +19,7 @@ use Rattle.model.specs.Memory.{Packet, Network, place, zeroLabel, zeroRecord, z
 use Rattle.network.specs.declared.RequestNumber.{RequestNumber}
 use Rattle.network.specs.declared.Packet as code
 use Rattle.network.specs.View as view
-use Rattle.network.specs.View.{rowOf, recordOf, packetOf, airOf, labelOf, view}
+use Rattle.network.specs.View.{rowOf, recordOf, packetOf, packetsOf, airOf, labelOf, view}
 use Rattle.network.proofs.PacketLaws.{packetIn}
 use Rattle.layout.specs.Places.{numbersAt, soughtAt, activeAt, linksAt, labelsAt, rowsAt, recordsAt, airAt, packetsAt}
 use Rattle.layout.specs.Stored.{storedFlag, storedNumber, storedLabel, storedRow, storedRecord, storedPacket, storedAir, storedMemory, storedNetwork}
@@ -181,7 +181,7 @@ module _ (net : Network) (fits : NetworkFits net) (bytes rest : List ℕ) (e : b
   packets-back k m = packet-back bytes (packetsAt + 28 * k) (getD (net .air) k zeroPacket) (fits .air .bodies k m) (packet-stands k m)
 
   air-back : airOf (storedAir bytes airAt) ≡ net .air
-  unfolding airOf storedAir tableAt
+  unfolding packetsOf storedAir tableAt
   air-back = counted-back (net .air) (byteAt bytes airAt) airLimit (packetIn (tabulate airLimit f)) zeroPacket count-back within past
     where
       f : ℕ → code.Packet

@@ -13,7 +13,7 @@ use Rattle.codec.specs.Tables.{tableAt}
 use Rattle.model.specs.Memory.{zeroLabel, zeroRecord, zeroPacket, airLimit}
 use Rattle.network.specs.declared.RequestNumber.{RequestNumber}
 use Rattle.network.specs.View as view
-use Rattle.network.specs.View.{rowOf, recordOf, packetOf, airOf, labelOf, view}
+use Rattle.network.specs.View.{rowOf, recordOf, packetOf, packetsOf, labelOf, view}
 use Rattle.network.proofs.PacketLaws.{packetIn}
 use Rattle.layout.specs.Places.{numbersAt, soughtAt, activeAt, linksAt, labelsAt, rowsAt, recordsAt, airAt, packetsAt}
 use Rattle.layout.specs.Stored.{storedFlag, storedNumber, storedLabel, storedRow, storedRecord, storedPacket, storedAir, storedMemory, storedNetwork}
@@ -67,11 +67,11 @@ module _ (bytes : List ℕ) where
 
   -- The air has as many packets as it counts.
   pub count-stored : length (storedNetwork bytes .air) ≡ byteAt bytes airAt
-  unfolding storedNetwork storedMemory view airOf storedAir
+  unfolding storedNetwork storedMemory view packetsOf storedAir
   count-stored = tabulate-length (byteAt bytes airAt) (packetIn (tableAt storedPacket 28 airLimit bytes packetsAt))
 
   pub packet-stored : (k : ℕ) → k < byteAt bytes airAt → k < airLimit → getD (storedNetwork bytes .air) k zeroPacket ≡ packetOf (storedPacket bytes (packetsAt + 28 * k))
-  unfolding storedNetwork storedMemory view airOf storedAir tableAt
+  unfolding storedNetwork storedMemory view packetsOf storedAir tableAt
   packet-stored k h m =
       tabulate-at (byteAt bytes airAt) (packetIn (tabulate airLimit (λ j. storedPacket bytes (packetsAt + 28 * j)))) k zeroPacket h
       ∙ ap packetOf (tabulate-at airLimit (λ j. storedPacket bytes (packetsAt + 28 * j)) k view.zeroPacket m)

@@ -11,14 +11,14 @@ use borrow.Author.Tests.{eq-eqb, ne-eqb, eqb-true, eqb-false, ltb-false, not-fal
 use Rattle.base.proofs.Booleans.{neither, choose, clash}
 use Rattle.base.specs.Lists.{tabulate}
 use Rattle.base.proofs.Loops.{tabulate-more}
-use Rattle.model.specs.Memory.{Network, fresh}
+use Rattle.model.specs.Memory.{Network}
 use Rattle.model.specs.Calls.{Call, after, step, run}
 use Rattle.model.specs.Calls.{Open, Up, Down, Solicit, GiveUp, Expire, Deliver, Lose, Duplicate}
-use Rattle.model.specs.Events.{usesOne, notEvent, callOf, Event, calls, traces, noEvent, eventOf, eventAt, callsIn, eventLimit, notEvents, afterFirst}
+use Rattle.model.specs.Events.{usesOne, notEvent, callOf, Event, calls, traces, noEvent, eventOf, eventAt, callsIn, eventLimit, notEvents, afterEvents}
 use Rattle.model.proofs.Refusals.{OnMemory}
 
 -- A list of calls and then another.
-run-append : (xs ys : List Call) (net : Network) → run (xs ++ ys) net ≡ run ys (run xs net)
+pub run-append : (xs ys : List Call) (net : Network) → run (xs ++ ys) net ≡ run ys (run xs net)
 unfolding run
 run-append [] ys net = refl
 run-append (c ∷ xs) ys net = run-append xs ys (after net (step c net))
@@ -31,11 +31,10 @@ calls-append (traces a t ∷ xs) ys = calls-append xs ys
 calls-append (noEvent ∷ xs) ys = calls-append xs ys
 
 -- One event more.
-pub after-more : (n start : ℕ) (kinds operands : List ℕ) (i : ℕ)
-    → afterFirst n start kinds operands (i + 1) ≡ run (callsIn (eventAt kinds operands i ∷ [])) (afterFirst n start kinds operands i)
-unfolding afterFirst
-after-more n start kinds operands i =
-    let net = fresh n start in
+pub after-more : (net : Network) (kinds operands : List ℕ) (i : ℕ)
+    → afterEvents net kinds operands (i + 1) ≡ run (callsIn (eventAt kinds operands i ∷ [])) (afterEvents net kinds operands i)
+unfolding afterEvents
+after-more net kinds operands i =
     let events = tabulate i (eventAt kinds operands) in
     let one = eventAt kinds operands i ∷ [] in
     ap (λ (l : List Event). run (callsIn l) net) (tabulate-more i (eventAt kinds operands))

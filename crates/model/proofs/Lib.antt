@@ -12,3 +12,4 @@ pub mod Tracing
 pub mod Walking
 pub mod EventLaws
 pub mod HistoryLaws
+pub mod Narrowing

@@ -10,7 +10,7 @@ use Rattle.label.specs.declared.Label.{Label}
 use Rattle.label.specs.Label.{isUnassigned}
 use Rattle.model.specs.Memory.{Network, labelAt, rowAt, stations}
 use Rattle.model.specs.Calls.{Effect, step, trace}
-use Rattle.model.specs.Events.{Event, calls, traces, noEvent, noEventAnswer, eventAt, afterFirst}
+use Rattle.model.specs.Events.{Event, calls, traces, noEvent, noEventAnswer, eventAt, afterEvents}
 
 -- "index, kind, a, b, answer .., packets sent .., packets in the air after it, hops".
 pub record Line : Type 0 where
@@ -63,15 +63,15 @@ unfoldable pub labelLines : Network → ℕ → List LabelLine
 labelLines net zero = []
 labelLines net (suc i) = labelLines net i ++ stationLines net i
 
--- A rehearsal of these events, from fresh memory of n stations.
-module _ (n start : ℕ) (kinds operands : List ℕ) where
+-- A rehearsal of these events, from this network.
+module _ (net : Network) (kinds operands : List ℕ) where
   unfoldable pub lineAt : ℕ → Line
   lineAt i =
-      lineOf i (getD kinds i 0) (getD operands (2 * i) 0) (getD operands (2 * i + 1) 0) (afterFirst n start kinds operands i) (eventAt kinds operands i)
+      lineOf i (getD kinds i 0) (getD operands (2 * i) 0) (getD operands (2 * i + 1) 0) (afterEvents net kinds operands i) (eventAt kinds operands i)
 
   -- "per event: ..; then `L` i t s m d ..".
   unfoldable pub eventLines : List Line
   eventLines = tabulate (length kinds) lineAt
 
   unfoldable pub routeLines : List LabelLine
-  routeLines = let net = afterFirst n start kinds operands (length kinds) in labelLines net (net .n)
+  routeLines = let last = afterEvents net kinds operands (length kinds) in labelLines last (last .n)

@@ -14,7 +14,7 @@ use Rattle.model.specs.Calls.{after, limited, notStation, notPair, notPa
 use Rattle.model.specs.Calls.{send, sending, neighbours, copies, solicit, removePacket, receive, deliver}
 use Rattle.model.specs.Calls.{recorded, markPassed, replyTo, resets, atDestination, canReply, onwardLabel, onwardReset, onward, engage, onRequest}
 use Rattle.model.specs.Calls.{matches, cachedAt, adopt, settle, passesOn, passOn, onOutcome, onReply, nextOf, follow, trace}
-use Rattle.model.specs.Events.{usesOne, notEvent, callOf, eventOf, eventAt, callsIn, afterFirst}
+use Rattle.model.specs.Events.{usesOne, notEvent, callOf, eventOf, eventAt, callsIn, afterEvents}
 use Rattle.model.specs.Printout.{Line, line, resultLine, lineOf, LabelLine, labelLine, isListed, labelLineAt, stationLines, labelLines, lineAt, eventLines, routeLines}
 
 -- "03 0900 0100000000000000 010103060607060609 0001 0102 0200 0000 0000 0000 0000 0000 0200".
@@ -40,8 +40,8 @@ lines =
 unfoldable pub routes : List LabelLine
 routes = labelLine 1 0 (label 1 1 2) (0 ∷ []) ∷ labelLine 2 0 (label 1 2 3) (1 ∷ []) ∷ []
 
-pub prints : (eventLines 3 1 kinds operands ≡ lines) × (routeLines 3 1 kinds operands ≡ routes)
-unfolding eventLines lineAt lineOf resultLine routeLines labelLines stationLines labelLineAt isListed afterFirst kinds operands lines routes callsIn run eventAt eventOf callOf notEvent usesOne tabulate step after refuse_when_otherwise_ limited notStation notPair notPacket sizeInRange memoryInRange stationInRange airInRange
+pub prints : (eventLines (fresh 3 1) kinds operands ≡ lines) × (routeLines (fresh 3 1) kinds operands ≡ routes)
+unfolding eventLines lineAt lineOf resultLine routeLines labelLines stationLines labelLineAt isListed afterEvents kinds operands lines routes callsIn run eventAt eventOf callOf notEvent usesOne tabulate step after refuse_when_otherwise_ limited notStation notPair notPacket sizeInRange memoryInRange stationInRange airInRange
     cellInRange rowInRange recordInRange ownInRange headInRange bodyInRange packetInRange successorInRange allBelow below allIn someIn keep
     isEmpty distinct unassigned isUnassigned inRange above fitting next split newLabel zeroLabel zeroRecord zeroPacket linkIn setLabels
     setRows setRecords setLinks setNumbers setSoughts setActives setAir freshLabels freshRecord fresh names without under replace withRoom

@@ -6,6 +6,7 @@ use mathlib.Core.List.{List}
 use lib.ListN.{length, length-map}
 use mir.Val.{Val}
 use denote.Laws.{Is}
+use denote.Array.{Array, array-vals}
 use denote.Struct.Laws.{vals}
 use Rattle.base.proofs.Lists.{unmapped}
 use Rattle.base.proofs.Loops.{tabulate-length}
@@ -27,12 +28,15 @@ use Rattle.network.proofs.Air.Laws as air′
 use Rattle.network.proofs.Memory as memory
 use Rattle.network.proofs.Memory.Laws as memory′
 
--- That machine values stand for a label, a packet, a row, an air, a memory.
+-- That machine values stand for a label, a packet, an array of packets, a row, an air, a memory.
 abbrev pub ValidLabel : Label → List Val → Type 0
 ValidLabel l values = Is label.the-row l values
 
 abbrev pub ValidPacket : Packet → Type 0
 ValidPacket p = Is packet.the-row p (vals packet.the-type packet′.the-laws p)
+
+abbrev pub ValidPackets : List Packet → Type 0
+ValidPackets l = Is (Array packet.the-row airLimit) l (array-vals (vals packet.the-type packet′.the-laws) l)
 
 abbrev pub ValidRow : Row → Type 0
 ValidRow r = Is row.the-row r (vals row.the-type row′.the-laws r)
@@ -72,6 +76,9 @@ row-lengths r valid = record {
   stations-length = unmapped _ (r .stations) rowLimit (valid .1 .1 .1 .0 .1 .0 .1);
   labels-length = unmapped _ (r .labels) rowLimit (valid .1 .1 .0 .1 .0 .1);
 }
+
+pub array-length : (l : List Packet) → ValidPackets l → length l ≡ airLimit
+array-length l valid = valid .1 .0 .1
 
 pub packets-length : (a : Air) → ValidAir a → length (a .packets) ≡ airLimit
 packets-length a valid = unmapped _ (a .packets) airLimit (valid .1 .1 .0 .1 .0 .1)

@@ -4,6 +4,5 @@ pub mod Bounds
 pub mod RowLaws
 pub mod CutLaws
 pub mod PacketLaws
-pub mod Lent
 pub mod RangeLaws
 pub mod Ranged

@@ -1,68 +1,70 @@
 -- Laws of the packets in the air read as a list.
-use Prim.Native.Nat.{ℕ, suc, _+_, _-_, _≤_, _<_}
-use mathlib.Core.Path.{_≡_, refl, sym, ap, ap₂, _∙_}
+use Prim.Native.Nat.{ℕ, suc, _+_, _≤_, _<_}
+use mathlib.Core.Path.{_≡_, ap, ap₂, _∙_}
 use mathlib.Core.Bool.{Bool, not}
 use mathlib.Core.List.{List, [], _∷_, _++_}
 use lib.ListN.{length, getD, set, take, drop, length-set}
 use lib.Seq.{getD-set-same, getD-set-other}
+use native.Mathlib.Numerals.{add-one}
 use native.Mathlib.Omega.{arith}
-use Rattle.base.specs.Lists.{tabulate, removed}
+use Rattle.base.specs.Lists.{removed}
 use Rattle.base.proofs.Loops.{tabulate-length, tabulate-at, tabulate-more, tabulate-same, tabulate-removed}
 use Rattle.model.specs.Memory.{airLimit}
 use Rattle.model.specs.Memory as model
 use Rattle.model.specs.Calls.{between}
 use Rattle.network.specs.declared.Packet.{Packet}
 use Rattle.network.specs.declared.Air.{Air}
-use Rattle.network.specs.View.{zeroPacket, packetOf, airOf}
+use Rattle.network.specs.View.{zeroPacket, packetOf, packetsOf, airOf}
 
 -- The packet at a place, read as the model's.
 abbrev pub packetIn : List Packet → ℕ → model.Packet
 packetIn l k = packetOf (getD l k zeroPacket)
 
--- The air has as many packets as it counts, and each stands at its place.
-module _ (air : Air) where
-  pub air-length : length (airOf air) ≡ air .count
-  unfolding airOf
-  air-length = tabulate-length (air .count) (packetIn (air .packets))
+-- The first packets of an array: as many as are counted, and each stands at its place.
+module _ (packets : List Packet) (count : ℕ) where
+  pub packets-count : length (packetsOf packets count) ≡ count
+  unfolding packetsOf
+  packets-count = tabulate-length count (packetIn packets)
 
-  pub air-at : (k : ℕ) (d : model.Packet) → k < air .count → getD (airOf air) k d ≡ packetIn (air .packets) k
-  unfolding airOf
-  air-at k d h = tabulate-at (air .count) (packetIn (air .packets)) k d h
+  pub packets-at : (k : ℕ) (d : model.Packet) → k < count → getD (packetsOf packets count) k d ≡ packetIn packets k
+  unfolding packetsOf
+  packets-at k d h = tabulate-at count (packetIn packets) k d h
+
+  -- A packet written at the count is one more.
+  pub appended : (p : Packet) → length packets ≡ airLimit → count < airLimit
+      → packetsOf (set packets count p) (count + 1) ≡ packetsOf packets count ++ (packetOf p ∷ [])
+  unfolding packetsOf
+  appended p long small =
+      tabulate-more count (packetIn (set packets count p))
+      ∙ ap₂ (λ (x : List model.Packet) (y : model.Packet). x ++ (y ∷ []))
+      (tabulate-same count _ (packetIn packets) (λ k m. ap packetOf (getD-set-other packets count k p zeroPacket (λ e. omega arith))))
+      (ap packetOf (getD-set-same packets count p zeroPacket (omega (arith, long))))
+
+-- The packets after k moved up.
+pub packets-removed : (packets : List Packet) (last k : ℕ) → k ≤ last → last < length packets
+    → packetsOf (removed k last packets) last ≡ take k (packetsOf packets (last + 1)) ++ drop (suc k) (packetsOf packets (last + 1))
+unfolding packetsOf
+packets-removed packets last k h g = rw (add-one last) (tabulate-removed packetOf k last zeroPacket packets h g)
+
+-- The same of an air.
+pub air-length : (air : Air) → length (airOf air) ≡ air .count
+air-length air = packets-count (air .packets) (air .count)
+
+pub air-at : (air : Air) (k : ℕ) (d : model.Packet) → k < air .count → getD (airOf air) k d ≡ packetIn (air .packets) k
+air-at air = packets-at (air .packets) (air .count)
 
 -- Packets that are not between a and b.
 abbrev pub apart : ℕ → ℕ → model.Packet → Bool
 apart a b p = not (between a b p)
 
--- The packets below a count, in an array of 128, read as a list.
+-- The packets below a count, in an array of 128, are a list.
 pub record Held (l : List model.Packet) (packets : List Packet) (count : ℕ) : Type 0 where
   pub room : length packets ≡ airLimit
-  pub list : tabulate count (packetIn packets) ≡ l
+  pub list : packetsOf packets count ≡ l
 
-module _ (l : List model.Packet) (packets : List Packet) (count : ℕ) (h : Held l packets count) where
-  pub held-count : length l ≡ count
-  held-count = ap length (sym (h .list)) ∙ tabulate-length count (packetIn packets)
-
-  -- A packet written at the count is one more.
-  pub held-more : (p : Packet) → count < airLimit → Held (l ++ (packetOf p ∷ [])) (set packets count p) (count + 1)
-  held-more p small = record {
-    room = length-set packets count p ∙ h .room;
-    list = tabulate-more count (packetIn (set packets count p))
-        ∙ ap₂ (λ (x : List model.Packet) (y : model.Packet). x ++ (y ∷ []))
-        (tabulate-same count _ (packetIn packets) (λ k m. ap packetOf (getD-set-other packets count k p zeroPacket (λ e. omega arith))) ∙ h .list)
-        (ap packetOf (getD-set-same packets count p zeroPacket (omega (arith, h .room))));
-  }
-
--- Appending stores a packet at the count.
-pub appended-air : (air : Air) (p : Packet) → length (air .packets) ≡ airLimit → air .count < airLimit
-    → airOf (record { packets = set (air .packets) (air .count) p; count = air .count + 1 }) ≡ airOf air ++ (packetOf p ∷ [])
-unfolding airOf
-appended-air air p long small = held-more (airOf air) (air .packets) (air .count) (record { room = long; list = refl }) p small .list
-
--- Removing moves the packets after k up.
-pub removed-air : (air : Air) (k : ℕ) → k < air .count → air .count ≤ length (air .packets)
-    → airOf (record { packets = removed k (air .count - 1) (air .packets); count = air .count - 1 }) ≡ take k (airOf air) ++ drop (suc k) (airOf air)
-unfolding airOf
-removed-air air k h g = rw count at (tabulate-removed packetOf k (air .count - 1) zeroPacket (air .packets) (omega arith) (omega arith))
-  where
-    count : suc (air .count - 1) ≡ air .count
-    count = omega arith
+pub held-more : (l : List model.Packet) (packets : List Packet) (count : ℕ) → Held l packets count → (p : Packet) → count < airLimit
+    → Held (l ++ (packetOf p ∷ [])) (set packets count p) (count + 1)
+held-more l packets count h p small = record {
+  room = length-set packets count p ∙ h .room;
+  list = appended packets count p (h .room) small ∙ ap (λ (x : List model.Packet). x ++ (packetOf p ∷ [])) (h .list);
+}

@@ -2,15 +2,14 @@
 use Prim.Native.Nat.{ℕ, _+_, _≤_, _<_}
 use mathlib.Core.Path.{_≡_, refl, sym, ap, ap₂, _∙_}
 use mathlib.Core.Logic.{_≢_}
-use mathlib.Core.Bool.{Bool, true, false, not}
+use mathlib.Core.Bool.{Bool, true, not, _&&_}
 use mathlib.Core.List.{[], _∷_, _++_, tail}
 use lib.ListN.{length, getD, set}
 use lib.Seq.{getD-set-same, getD-set-other}
-use lib.Dec.{eqb}
 use native.Mathlib.Omega.{arith}
 use borrow.Author.Tests.{eq-eqb, ne-eqb}
-use Rattle.base.specs.Lists.{someIn, keep, tabulate}
-use Rattle.base.proofs.Lists.{keep-length, none-left, some-left, empty-length}
+use Rattle.base.specs.Lists.{someIn, allIn, keep, tabulate}
+use Rattle.base.proofs.Lists.{keep-length, none-kept}
 use Rattle.base.proofs.Loops.{tabulate-length, tabulate-more, tabulate-same, tabulate-set}
 use Rattle.label.specs.declared.Label.{Label}
 use Rattle.label.specs.Label.{label}
@@ -18,8 +17,7 @@ use Rattle.model.specs.Memory as model
 use Rattle.model.specs.Memory.{names, without, rowLimit}
 use Rattle.model.specs.Calls.{empties}
 use Rattle.network.specs.declared.Row.{Row}
-use Rattle.network.specs.declared.rows.Keep.the-variants.{Without}
-use Rattle.network.specs.View.{successor, entryOf, rowOf, keeps}
+use Rattle.network.specs.View.{successor, entryOf, rowOf}
 use Rattle.network.proofs.Bounds.{RowLengths}
 
 -- Whether entry k names j.
@@ -93,27 +91,7 @@ pub row-first-left : (row : Row) → row .count ≡ 4
 unfolding rowOf entryOf tabulate
 row-first-left row full = rw full refl
 
--- A row that j left: what its count tells.
-module _ (row rest : Row) (j : ℕ) (e : rowOf rest ≡ keep (keeps (Without j)) (rowOf row)) where
-  pub lost : rowOf rest ≡ without (names j) (rowOf row)
-  unfolding without keeps
-  lost = e
-
-  left-length : length (without (names j) (rowOf row)) ≡ rest .count
-  left-length = ap length (sym lost) ∙ row-length rest
-
-  pub lost-none : rest .count ≡ row .count → someIn (names j) (rowOf row) ≡ false
-  unfolding without
-  lost-none q = none-left (names j) (rowOf row) (left-length ∙ q ∙ sym (row-length row))
-
-  pub lost-some : rest .count ≢ row .count → someIn (names j) (rowOf row) ≡ true
-  unfolding without
-  lost-some n = some-left (names j) (rowOf row) (λ q. n (sym left-length ∙ q ∙ row-length row))
-
-  pub empties-none : rest .count ≡ row .count → empties (names j) (rowOf row) ≡ false
-  unfolding empties
-  empties-none q = rw (lost-none q)
-
-  pub empties-some : rest .count ≢ row .count → empties (names j) (rowOf row) ≡ eqb (rest .count) 0
-  unfolding empties
-  empties-some n = rw (lost-some n) (empty-length (without (names j) (rowOf row)) ∙ ap (λ c. eqb c 0) left-length)
+-- A row is emptied where an entry leaves, and every entry does.
+pub empties-is : (leaves : model.Successor → Bool) (r : model.Row) → empties leaves r ≡ someIn leaves r && allIn leaves r
+unfolding empties without
+empties-is leaves r = ap (λ (b : Bool). someIn leaves r && b) (none-kept leaves r)

@@ -70,8 +70,12 @@ bodyOf p =
 unfoldable pub packetOf : Packet → model.Packet
 packetOf p = record { sender = p .sender; receiver = p .receiver; body = bodyOf p }
 
-unfoldable pub airOf : Air → List model.Packet
-airOf air = tabulate (air .count) (λ k. packetOf (getD (air .packets) k zeroPacket))
+-- The first `count` packets of an array.
+unfoldable pub packetsOf : List Packet → ℕ → List model.Packet
+packetsOf packets count = tabulate count (λ k. packetOf (getD packets k zeroPacket))
+
+abbrev pub airOf : Air → List model.Packet
+airOf air = packetsOf (air .packets) (air .count)
 
 -- The tables of s, m and d as a table of labels.
 unfoldable pub labelOf : List ℕ → List ℕ → List ℕ → ℕ → Label

@@ -1,13 +1,14 @@
 // The packets in the air: sending, removing and dropping them.
 ghost use mathlib.Core.Path.{_≡_};
 ghost use mathlib.Core.Bool.{not};
-ghost use mathlib.Core.List.{[], _∷_, _++_, map};
-ghost use Prim.Native.Nat.{suc, _+_, _<_, _≤_};
-ghost use lib.ListN.{length, take, drop, set};
+ghost use mathlib.Core.List.{_++_, map};
+ghost use Prim.Native.Nat.{_+_, _<_, _≤_};
+ghost use lib.ListN.{length, set};
 ghost use Rattle.base.specs.Lists.{keep, below, removed};
 ghost use Rattle.model.specs.Memory.{linkIn, request, reply, error, airLimit};
 ghost use Rattle.model.specs.Calls.{packet, between};
-ghost use Rattle.network.specs.View.{bodyOf, packetOf, airOf};
+ghost use Rattle.network.specs.View.{bodyOf, packetOf, packetsOf, airOf};
+use crate::AIR_LIMIT;
 use crate::Air;
 use crate::Packet;
 use crate::RequestNumber;
@@ -103,26 +104,45 @@ fn remove_from(packets: &mut [Packet], last: usize, k: usize)
     }
 }
 
-// The air with p last.
-pub fn append(mut air: Air, p: Packet) -> Air
-    requires { ⌜ air .count < airLimit ⌝ }
-    ensures { λ r. ⌜ airOf r ≡ airOf air ++ (packetOf p ∷ []) ⌝ }
+// The packets with p at place `count`.
+pub fn append(
+    mut packets: [Packet; AIR_LIMIT as usize],
+    count: usize,
+    p: Packet,
+) -> [Packet; AIR_LIMIT as usize]
+    requires { ⌜ count < airLimit ⌝ }
+    ensures { λ r. ⌜ r ≡ set packets count p ⌝ }
 {
-    let count = air.count;
-    append_to(&mut air.packets, count as usize, p);
-    air.count = count + 1;
-    air
+    append_to(&mut packets, count, p);
+    packets
 }
 
-// The air without packet k; later ones move up.
-pub fn remove(mut air: Air, k: usize) -> Air
-    requires { ⌜ (k < air .count) × (air .count ≤ airLimit) ⌝ }
-    ensures { λ r. ⌜ airOf r ≡ take k (airOf air) ++ drop (suc k) (airOf air) ⌝ }
+// The packets with those after place k, up to place `last`, moved up by one.
+pub fn remove(
+    mut packets: [Packet; AIR_LIMIT as usize],
+    last: usize,
+    k: usize,
+) -> [Packet; AIR_LIMIT as usize]
+    requires { ⌜ (k ≤ last) × (last < airLimit) ⌝ }
+    ensures { λ r. ⌜ r ≡ removed k last packets ⌝ }
 {
-    let last = air.count - 1;
-    remove_from(&mut air.packets, last as usize, k);
-    air.count = last;
-    air
+    remove_from(&mut packets, last, k);
+    packets
+}
+
+// The same, with p at place `last`.
+pub fn replace(
+    mut packets: [Packet; AIR_LIMIT as usize],
+    last: usize,
+    k: usize,
+    p: Packet,
+) -> [Packet; AIR_LIMIT as usize]
+    requires { ⌜ (k ≤ last) × (last < airLimit) ⌝ }
+    ensures { λ r. ⌜ r ≡ set (removed k last packets) last p ⌝ }
+{
+    remove_from(&mut packets, last, k);
+    append_to(&mut packets, last, p);
+    packets
 }
 
 // Whether p is under way between a and b.
@@ -134,45 +154,52 @@ fn is_between(p: Packet, a: u8, b: u8) -> bool
     (sender == a) & (receiver == b) | (sender == b) & (receiver == a)
 }
 
-// The air without the packets between a and b, the others in their order.
-pub fn without_between(air: Air, a: u8, b: u8) -> Air
-    requires { ⌜ air .count ≤ airLimit ⌝ }
-    ensures { λ r. ⌜ airOf r ≡ keep (λ p. not (between a b p)) (airOf air) ⌝ }
+// The first `count` packets without those between a and b, the others in their order.
+pub fn without_between(packets: [Packet; AIR_LIMIT as usize], count: u8, a: u8, b: u8) -> Air
+    requires { ⌜ count ≤ airLimit ⌝ }
+    ensures { λ r. ⌜ airOf r ≡ keep (λ p. not (between a b p)) (packetsOf packets count) ⌝ }
 {
-    let count = air.count;
-    let mut next = air;
+    let mut next = packets;
     let mut left = 0;
     let mut k = 0;
     while k < count {
-        let p = air.packets[k as usize];
+        let p = packets[k as usize];
         if !is_between(p, a, b) {
-            next.packets[left as usize] = p;
+            next[left as usize] = p;
             left += 1;
         }
         k += 1;
     }
-    next.count = left;
-    next
+    Air {
+        packets: next,
+        count: left,
+    }
 }
 
-// The air with one copy of p for each up neighbour of a, ascending.
-pub fn broadcast(mut air: Air, links: [bool; 256], n: u8, a: u8, p: Packet) -> Air
+// The packets with one copy of p for each up neighbour of a, ascending, from place `count` on.
+pub fn broadcast(
+    mut packets: [Packet; AIR_LIMIT as usize],
+    count: u8,
+    links: [bool; 256],
+    n: u8,
+    a: u8,
+    p: Packet,
+) -> [Packet; AIR_LIMIT as usize]
     requires { ⌜ (n ≤ 16) × (a < 16) ⌝ }
-    requires { ⌜ air .count + length (below n (linkIn links a)) ≤ airLimit ⌝ }
-    ensures { λ r. ⌜ airOf r ≡ airOf air ++ map (λ b. packet a b (bodyOf p)) (below n (linkIn links a)) ⌝ }
+    requires { ⌜ count + length (below n (linkIn links a)) ≤ airLimit ⌝ }
+    ensures { λ r. ⌜ packetsOf r (count + length (below n (linkIn links a))) ≡ packetsOf packets count ++ map (λ b. packet a b (bodyOf p)) (below n (linkIn links a)) ⌝ }
 {
-    let mut count = air.count;
+    let mut end = count;
     let mut b = 0;
     while b < n {
         let pair = pair_place(a, b);
         let up = links[pair];
         if joined(a, b, up) {
-            let at = count as usize;
-            air.packets[at] = addressed(p, a, b);
-            count += 1;
+            let at = end as usize;
+            packets[at] = addressed(p, a, b);
+            end += 1;
         }
         b += 1;
     }
-    air.count = count;
-    air
+    packets
 }

@@ -1,16 +1,14 @@
-// Rows: looking for a station, keeping entries, the row of an accepted reply, and taking a station out of many rows.
+// Rows: looking for a station, keeping entries, the row of an accepted reply, and masks of destinations.
 ghost use mathlib.Core.Path.{_≡_};
-ghost use mathlib.Core.List.{[], _∷_, _++_, map};
-ghost use Prim.Native.Nat.{ℕ, _+_, _^_, _<_, _≤_};
-ghost use lib.ListN.{getD};
+ghost use mathlib.Core.List.{[], _∷_, _++_};
+ghost use Prim.Native.Nat.{_+_, _^_, _<_, _≤_};
 ghost use Rattle.base.specs.Choice.{if_then_else_};
-ghost use Rattle.base.specs.Lists.{someIn, keep, tabulate, indexOf};
-ghost use Rattle.model.specs.Memory.{place, names, without, under, put, withRoom, rowLimit};
-ghost use Rattle.model.specs.Calls.{bit, empties, takeOut, removes, emptied};
-ghost use Rattle.network.specs.View.{zeroRow, successor, entryOf, rowOf, keeps};
+ghost use Rattle.base.specs.Lists.{someIn, allIn, keep, tabulate, indexOf};
+ghost use Rattle.model.specs.Memory.{names, without, under, put, withRoom, rowLimit};
+ghost use Rattle.model.specs.Calls.{bit, empties};
+ghost use Rattle.network.specs.View.{successor, entryOf, rowOf, keeps};
 use crate::ROW_LIMIT;
 use crate::Row;
-use crate::places::place;
 use label::Label;
 
 // The place of the first of so many entries that names j, or their number where none does.
@@ -128,38 +126,50 @@ pub fn adopted(row: Row, g: Label, j: u8, v: Label) -> Row
     put(filtered(row, Keep::Under(g)), j, v)
 }
 
-// A row that j left, whether it stood there, and whether that emptied the row.
-pub struct Removal {
-    pub row: Row,
-    pub removed: bool,
-    pub emptied: bool,
+// Whether j stands in the row.
+pub fn has_station(row: Row, j: u8) -> bool
+    requires { ⌜ row .count ≤ rowLimit ⌝ }
+    ensures { λ r. ⌜ r ≡ someIn (names j) (rowOf row) ⌝ }
+{
+    let count = row.count as usize;
+    find(row, count, j) < count
+}
+
+// Whether every entry names j.
+fn only_station(row: Row, j: u8) -> bool
+    requires { ⌜ row .count ≤ rowLimit ⌝ }
+    ensures { λ r. ⌜ r ≡ allIn (names j) (rowOf row) ⌝ }
+{
+    let count = row.count as usize;
+    let mut k = 0;
+    while k < count {
+        let station = row.stations[k];
+        if station != j {
+            return false;
+        }
+        k += 1;
+    }
+    true
+}
+
+// Whether the row is empty once j has left it, and was not before.
+pub fn empties(row: Row, j: u8) -> bool
+    requires { ⌜ row .count ≤ rowLimit ⌝ }
+    ensures { λ r. ⌜ r ≡ empties (names j) (rowOf row) ⌝ }
+{
+    has_station(row, j) & only_station(row, j)
 }
 
 // The row without j.
-pub fn without_station(row: Row, j: u8) -> Removal
+pub fn without_station(row: Row, j: u8) -> Row
     requires { ⌜ row .count ≤ rowLimit ⌝ }
-    ensures row { λ r. ⌜ rowOf (r .row) ≡ without (names j) (rowOf row) ⌝ }
-    ensures removed { λ r. ⌜ r .removed ≡ someIn (names j) (rowOf row) ⌝ }
-    ensures emptied { λ r. ⌜ r .emptied ≡ empties (names j) (rowOf row) ⌝ }
+    ensures { λ r. ⌜ rowOf r ≡ without (names j) (rowOf row) ⌝ }
 {
-    let rest = filtered(row, Keep::Without(j));
-    let left = rest.count;
-    if left == row.count {
-        return Removal {
-            row: rest,
-            removed: false,
-            emptied: false,
-        };
-    }
-    Removal {
-        row: rest,
-        removed: true,
-        emptied: left == 0,
-    }
+    filtered(row, Keep::Without(j))
 }
 
 // Whether destination t is in the mask.
-fn bit(mask: u16, t: u8) -> bool
+pub fn bit(mask: u16, t: u8) -> bool
     requires { ⌜ t < 16 ⌝ }
     ensures { λ r. ⌜ r ≡ bit mask t ⌝ }
 {
@@ -167,7 +177,7 @@ fn bit(mask: u16, t: u8) -> bool
 }
 
 // The mask of destinations below t, with t too if yes.
-fn marked(mask: u16, t: u8, yes: bool) -> u16
+pub fn marked(mask: u16, t: u8, yes: bool) -> u16
     requires { ⌜ (t < 16) × (mask < 2 ^ t) ⌝ }
     ensures { λ r. ⌜ r ≡ mask + (if yes then 2 ^ t else 0) ⌝ }
 {
@@ -175,41 +185,4 @@ fn marked(mask: u16, t: u8, yes: bool) -> u16
         return mask | (1 << t);
     }
     mask
-}
-
-// The rows after a station left some of them, the mask of those that this emptied, and whether it stood in any.
-pub struct Cut {
-    pub rows: [Row; 256],
-    pub emptied: u16,
-    pub removed: bool,
-}
-
-// The rows with j taken out of those that i holds for the masked destinations below n.
-pub fn take_out(mut rows: [Row; 256], i: u8, j: u8, n: u8, mask: u16) -> Cut
-    requires { ⌜ (i < 16) × (n ≤ 16) ⌝ }
-    requires { ⌜ ((t : ℕ) → t < n → getD rows (place i t) zeroRow .count ≤ rowLimit) ⌝ }
-    ensures rows { λ r. ⌜ map rowOf (r .rows) ≡ takeOut (bit mask) (names j) i n (map rowOf rows) ⌝ }
-    ensures emptied { λ r. ⌜ r .emptied ≡ emptied (bit mask) (names j) i n (map rowOf rows) ⌝ }
-    ensures removed { λ r. ⌜ r .removed ≡ removes (bit mask) (names j) i n (map rowOf rows) ⌝ }
-{
-    let mut emptied = 0;
-    let mut removed = false;
-    let mut t = 0;
-    while t < n {
-        if bit(mask, t) {
-            let at = place(i, t);
-            let row = rows[at];
-            let removal = without_station(row, j);
-            let rest = removal.row;
-            rows[at] = rest;
-            emptied = marked(emptied, t, removal.emptied);
-            removed = removed | removal.removed;
-        }
-        t += 1;
-    }
-    Cut {
-        rows: rows,
-        emptied: emptied,
-        removed: removed,
-    }
 }

@@ -5,9 +5,10 @@ use mathlib.Core.Logic.{_≢_}
 use mathlib.Core.List.{List}
 use lib.ListN.{length}
 use Rattle.base.specs.Results.{Result, refused, accepted}
+use Rattle.model.specs.Memory.{fresh}
 use Rattle.model.specs.Calls.{trace}
 use Rattle.model.specs.Walks.{WalksEnd}
-use Rattle.model.specs.Events.{eventLimit, afterFirst}
+use Rattle.model.specs.Events.{eventLimit, afterEvents}
 use Rattle.codec.specs.Bytes.{over}
 use Rattle.script.specs.Script.{Script, reading}
 use Rattle.printout.specs.Text.{refusalText, rehearsalText}
@@ -28,5 +29,5 @@ Prints bytes out r out′ = (out′ ≡ over (printed bytes) out) × (r ≡ leng
 -- Demand 3 of the routes printed: of the network after the script's events, whatever they are.
 unfoldable pub RoutesLoopFree : List ℕ → Type 0
 RoutesLoopFree bytes =
-    (s : Script) → reading bytes eventLimit (2 * eventLimit) ≡ accepted s → let net = afterFirst (s .n) (s .start) (s .kinds) (s .operands) (length (s .kinds)) in
+    (s : Script) → reading bytes eventLimit (2 * eventLimit) ≡ accepted s → let net = afterEvents (fresh (s .n) (s .start)) (s .kinds) (s .operands) (length (s .kinds)) in
     (a t : ℕ) → a < net .n → t < net .n → a ≢ t → WalksEnd net a t (trace net a t)

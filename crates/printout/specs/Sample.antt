@@ -7,7 +7,7 @@ use mathlib.Core.List.{List, [], _∷_, _++_, flatMap}
 use Rattle.base.specs.Lists.{allBelow}
 use Rattle.base.specs.Results.{accepted, refuse_when_otherwise_, _andThen_}
 use Rattle.codec.specs.Bytes.{number}
-use Rattle.model.specs.Memory.{sizeInRange}
+use Rattle.model.specs.Memory.{fresh, sizeInRange}
 use Rattle.model.specs.Calls.{notOpening}
 use Rattle.model.specs.Events.{eventLimit, usesOne, notEvent, allEvents}
 use Rattle.model.specs.Printout.{Line, LabelLine, routeLines}
@@ -50,5 +50,5 @@ pub prints-text : printed example ≡ flatMap (λ line. ended (codes line)) text
 unfolding printed textOf rehearsalText flatMap digitsOf decimal field eventText labelText lines routes codes text
 prints-text =
     ap textOf reads
-    ∙ ap (λ (l : List Line). flatMap eventText l ++ flatMap labelText (routeLines 3 1 kinds operands)) (prints .0)
+    ∙ ap (λ (l : List Line). flatMap eventText l ++ flatMap labelText (routeLines (fresh 3 1) kinds operands)) (prints .0)
     ∙ ap (λ (l : List LabelLine). flatMap eventText lines ++ flatMap labelText l) (prints .1)

@@ -3,6 +3,7 @@ use Prim.Native.Nat.{ℕ, zero, suc, _+_, _/_, _%_}
 use mathlib.Core.List.{List, [], _∷_, _++_, flatMap}
 use lib.Dec.{ltb}
 use Rattle.base.specs.Choice.{if_then_else_}
+use Rattle.model.specs.Memory.{fresh}
 use Rattle.model.specs.Printout.{Line, LabelLine, eventLines, routeLines}
 
 -- "Fields are decimal": the digits of n in ASCII, where it has at most so many.
@@ -38,4 +39,4 @@ labelText l =
 -- "Otherwise per event: ..; then `L` ..".
 unfoldable pub rehearsalText : (n start : ℕ) (kinds operands : List ℕ) → List ℕ
 rehearsalText n start kinds operands =
-    flatMap eventText (eventLines n start kinds operands) ++ flatMap labelText (routeLines n start kinds operands)
+    flatMap eventText (eventLines (fresh n start) kinds operands) ++ flatMap labelText (routeLines (fresh n start) kinds operands)

@@ -1,2 +1,3 @@
 pub mod MadeLaws
+pub mod NarrowLaws
 pub mod RunLaws

@@ -1,57 +1,93 @@
 -- A run of events, as the code makes it.
-use Prim.Native.Nat.{ℕ, _+_}
-use mathlib.Core.Path.{_≡_, sym, ap, subst, _∙_}
+use Prim.Native.Nat.{ℕ, _≤_, _<_}
+use mathlib.Core.Path.{_≡_, refl, sym, ap, subst, _∙_}
 use mathlib.Core.Bool.{true, false, not}
-use mathlib.Core.List.{List, _∷_, []}
+use mathlib.Core.List.{List, _++_}
 use lib.ListN.{length}
+use lib.Seq.{sets}
+use lib.Dec.{ltb}
+use native.Mathlib.Omega.{arith}
+use borrow.Author.Tests.{lt-ltb, le-ltb}
 use Rattle.base.specs.Lists.{tabulate}
-use Rattle.base.proofs.Results.{refuse-passes}
+use Rattle.base.specs.Results.{refused, accepted, refuse_when_otherwise_, mapped}
+use Rattle.base.proofs.Loops.{tabulate-length, map-tabulate}
+use Rattle.base.proofs.Results.{refuse-holds, refuse-passes}
+use Rattle.codec.specs.Bytes.{putInto}
+use Rattle.codec.proofs.ByteLaws.{sets-over}
 use Rattle.model.specs.Memory.{Network, memoryInRange}
-use Rattle.model.specs.Memory as model
-use Rattle.model.specs.Calls.{effect, notOpening, run}
+use Rattle.model.specs.Calls.{Call, effect, run, trace}
 use Rattle.model.specs.Walks.{Reached}
-use Rattle.model.specs.Events.{eventAt, callsIn, notEvents, allEvents, afterFirst, running}
-use Rattle.model.proofs.Range.{Invariant, invariant-in-range}
-use Rattle.model.proofs.Refusals.{opening-accepted, fresh-reached}
-use Rattle.model.proofs.Steps.{opened-invariant}
-use Rattle.model.proofs.EventLaws.{after-more}
+use Rattle.model.specs.Events.{eventAt, callsIn, notEvents, allEvents, afterEvents, running}
+use Rattle.model.specs.Printout.{lineAt, eventLines}
+use Rattle.model.proofs.EventLaws.{run-append}
 use Rattle.network.specs.declared.Memory.{Memory}
 use Rattle.network.specs.View.{view}
-use Rattle.steps.specs.declared.events.Happened.{Happened}
+use Rattle.steps.specs.declared.Done.{Done}
 use Rattle.steps.specs.Called.{done, Called}
-use Rattle.steps.specs.Happens.{Happens}
-use Rattle.steps.proofs.HappenLaws.{happens-after, happens-in-range}
+use Rattle.steps.specs.Ran as steps
+use Rattle.steps.specs.Ran.{Ran}
+use Rattle.steps.proofs.CallLaws.{called-refused}
+use Rattle.steps.proofs.RunLaws.{ran-in-range, ran-after}
+use Rattle.sandbox.specs.Made.{MadeMemory, WalksEndIn}
+use Rattle.sandbox.specs.Telling.{told, Tells}
+use Rattle.sandbox.proofs.MadeLaws.{made-memory-reached, reached-ends}
 
--- After i events the memory is in range, and the model's.
-pub record Ran (n start : ℕ) (kinds operands : List ℕ) (i : ℕ) (next : Memory) : Type 0 where
-  pub ranged : memoryInRange (view next) ≡ true
-  pub left : view next ≡ afterFirst n start kinds operands i
+-- A network that calls reach, they reach after more calls.
+reached-more : (net : Network) (calls : List Call) → Reached net → Reached (run calls net)
+reached-more net calls r = record {
+  n = r .n;
+  start = r .start;
+  opened = r .opened;
+  opens = r .opens;
+  calls = r .calls ++ calls;
+  left = ap (run calls) (r .left) ∙ sym (run-append (r .calls) calls (r .opened .net));
+}
 
-module _ (n start : ℕ) (kinds operands : List ℕ) where
-  pub ran-none : (next : Memory) → notOpening n start ≡ false → view next ≡ model.fresh n start → Ran n start kinds operands 0 next
-  unfolding afterFirst tabulate callsIn run
-  ran-none next h e =
-      let inv : Invariant ⊥ (model.fresh n start) = opened-invariant n start (effect 0 0 (model.fresh n start)) (opening-accepted n start h) in
-      record { ranged = ap memoryInRange e ∙ invariant-in-range (model.fresh n start) inv; left = e }
+module _ (memory : Memory) (kinds operands lines : List ℕ) where
+  -- What the contract says.
+  abbrev Ends : Memory → Type 0
+  Ends next = (a t : ℕ) → WalksEndIn next a t (trace (view next) a t)
 
-  pub ran-more : (i : ℕ) (next : Memory) (r : Happened) → Ran n start kinds operands i next → Happens next (eventAt kinds operands i) r
-      → Ran n start kinds operands (i + 1) (r .memory)
-  ran-more i next r k h = record {
-    ranged = happens-in-range next (eventAt kinds operands i) r h (k .ranged);
-    left =
-        happens-after next (eventAt kinds operands i) r h ∙ ap (run (callsIn (eventAt kinds operands i ∷ []))) (k .left)
-        ∙ sym (after-more n start kinds operands i);
-  }
+  abbrev pub Runs : Done → List ℕ → Type 0
+  Runs r lines′ =
+      Called memory (running (view memory) kinds operands (length lines)) r
+      × (Tells (view memory) kinds operands lines lines′ × ((MadeMemory memory → Ends (r .memory)) × (Reached (view memory) → Ends (r .memory))))
 
-  -- The whole run, past its tests.
-  pub run-accepted : (memory next : Memory) → notEvents (length kinds) (length operands) ≡ false → notOpening n start ≡ false → allEvents kinds operands ≡ true
-      → Ran n start kinds operands (length kinds) next → Called memory (running n start kinds operands) (done next 0 0)
-  unfolding Called running
-  run-accepted memory next h k l r =
-      subst (λ z. Called memory z (done next 0 0)) (sym (refuse-passes 10 _ _ h ∙ refuse-passes 1 _ _ k ∙ refuse-passes 11 _ _ (ap not l)))
-      (ap (λ (net : Network). effect 0 0 net) (r .left), r .ranged)
+  ends : (next : Memory) → (Reached (view memory) → Reached (view next)) → (MadeMemory memory → Ends next) × (Reached (view memory) → Ends next)
+  ends next f = (λ m a t. reached-ends next a t _ refl (f (made-memory-reached memory m)), λ r a t. reached-ends next a t _ refl (f r))
 
-  -- It is memory that a list of calls reaches.
-  pub run-reached : (next : Memory) → notOpening n start ≡ false → Ran n start kinds operands (length kinds) next → Reached (view next)
-  unfolding afterFirst
-  run-reached next h r = fresh-reached n start h (callsIn (tabulate (length kinds) (eventAt kinds operands))) (view next) (r .left)
+  pub run-refused : (number : ℕ) → running (view memory) kinds operands (length lines) ≡ refused number → Runs (done memory number 0) lines
+  unfolding Tells mapped putInto
+  run-refused number e = (called-refused memory _ number e, (rw e, ends memory (λ r. r)))
+
+  -- Past the first three tests.
+  module _ (listed : notEvents (length kinds) (length operands) ≡ false) (ranged : memoryInRange (view memory) ≡ true) (right : allEvents kinds operands ≡ true) where
+    tested : running (view memory) kinds operands (length lines)
+        ≡ refuse 12 when ltb (length lines) (length kinds) otherwise accepted (effect 0 0 (afterEvents (view memory) kinds operands (length kinds)))
+    unfolding running
+    tested = refuse-passes 10 _ _ listed ∙ refuse-passes 1 _ _ (ap not ranged) ∙ refuse-passes 11 _ _ (ap not right)
+
+    pub run-no-room : length lines < length kinds → Runs (done memory 12 0) lines
+    run-no-room h = run-refused 12 (tested ∙ refuse-holds 12 _ _ (lt-ltb (length lines) (length kinds) h))
+
+    module _ (next : Memory) (lines′ : List ℕ) (ran : Ran memory kinds operands (length kinds) next) where
+      left : view next ≡ afterEvents (view memory) kinds operands (length kinds)
+      left = ran-after memory kinds operands (length kinds) next ran
+
+      reached : Reached (view memory) → Reached (view next)
+      unfolding afterEvents
+      reached r = subst Reached (sym left) (reached-more (view memory) (callsIn (tabulate (length kinds) (eventAt kinds operands))) r)
+
+      pub run-accepted : length kinds ≤ length lines → lines′ ≡ sets lines 0 (tabulate (length kinds) (steps.told (view memory) kinds operands))
+          → Runs (done next 0 0) lines′
+      unfolding Called Tells mapped putInto eventLines steps.told
+      run-accepted h told-are =
+          let e = tested ∙ refuse-passes 12 _ _ (le-ltb (length lines) (length kinds) h) in (
+            subst (λ z. Called memory z (done next 0 0)) (sym e)
+                (ap (λ (net : Network). effect 0 0 net) left, ran-in-range memory kinds operands (length kinds) next ran ranged),
+            (
+              rw (e, map-tabulate told (length kinds) (lineAt (view memory) kinds operands))
+                  (told-are ∙ sets-over lines _ (omega (arith, tabulate-length (length kinds) (steps.told (view memory) kinds operands)))),
+              ends next reached,
+            ),
+          )

@@ -1,21 +1,23 @@
 // Events (01, "Scripts and the printout") on any memory, and runs of events.
 ghost use mathlib.Core.Path.{_≡_};
 ghost use Prim.Native.Nat.{ℕ};
+ghost use lib.ListN.{length};
 ghost use Rattle.model.specs.Calls.{trace};
 ghost use Rattle.model.specs.Events.{eventOf, running};
+ghost use Rattle.model.specs.Walks.{Reached};
 ghost use Rattle.network.specs.View.{view};
 ghost use Rattle.steps.specs.Called.{Called};
 ghost use Rattle.steps.specs.Happens.{Happens};
-ghost use Rattle.sandbox.specs.Made.{WalksEndIn};
+ghost use Rattle.sandbox.specs.Made.{MadeMemory, WalksEndIn};
+ghost use Rattle.sandbox.specs.Telling.{Tells};
 use network::Memory;
-use network::opening::fresh;
 use network::range::in_range;
 use steps::Done;
-use steps::events::Happened;
-use steps::events::event_in_range;
+use steps::Happened;
+use steps::running;
+use steps::single::event_in_range;
 use validation::all_events;
 use validation::not_events;
-use validation::open_refused;
 
 // An event: the call of its kind on its operands, or a Trace.
 pub fn event(memory: Memory, kind: u8, a: u8, b: u8) -> Happened
@@ -32,11 +34,13 @@ pub fn event(memory: Memory, kind: u8, a: u8, b: u8) -> Happened
     event_in_range(memory, kind, a, b)
 }
 
-// Events one after the other, from fresh memory of n stations. The memory handed in is not read; it is given back where the run is
-// turned down. The range is tested for no event: every event keeps it.
-pub fn run(memory: Memory, n: usize, start: u64, kinds: &[u8], operands: &[u8]) -> Done
-    ensures run { λ r. ⌜ Called memory (running n start (now (kinds .entry)) (now (operands .entry))) r ⌝ }
-    ensures loop_free { λ r. ⌜ (r .answer ≡ 0 → (a t : ℕ) → WalksEndIn (r .memory) a t (trace (view (r .memory)) a t)) ⌝ }
+// Events one after the other, each on the memory that the one before left; the lent array tells of each its answer, the packets sent,
+// the packets in the air after it, and its hops. The range is tested once: every event keeps it.
+pub fn run(memory: Memory, kinds: &[u8], operands: &[u8], lines: &mut [u64]) -> Done
+    ensures run { λ r. ⌜ Called memory (running (view memory) (now (kinds .entry)) (now (operands .entry)) (length (now (lines .entry)))) r ⌝ }
+    ensures told { λ _. ⌜ Tells (view memory) (now (kinds .entry)) (now (operands .entry)) (now (lines .entry)) (now (lines .exit)) ⌝ }
+    ensures loop_free { λ r. ⌜ (MadeMemory memory → (a t : ℕ) → WalksEndIn (r .memory) a t (trace (view (r .memory)) a t)) ⌝ }
+    ensures reached { λ r. ⌜ (Reached (view memory) → (a t : ℕ) → WalksEndIn (r .memory) a t (trace (view (r .memory)) a t)) ⌝ }
 {
     if not_events(kinds.len(), operands.len()) {
         return Done {
@@ -45,7 +49,7 @@ pub fn run(memory: Memory, n: usize, start: u64, kinds: &[u8], operands: &[u8]) 
             sent: 0,
         };
     }
-    if open_refused(n, start) {
+    if !in_range(memory) {
         return Done {
             memory: memory,
             answer: 1,
@@ -59,16 +63,14 @@ pub fn run(memory: Memory, n: usize, start: u64, kinds: &[u8], operands: &[u8]) 
             sent: 0,
         };
     }
-    let mut next = fresh(n as u8, start);
-    let mut i = 0;
-    while i < kinds.len() {
-        let kind = kinds[i];
-        let a = operands[2 * i];
-        let b = operands[2 * i + 1];
-        let happened = event_in_range(next, kind, a, b);
-        next = happened.memory;
-        i += 1;
+    if lines.len() < kinds.len() {
+        return Done {
+            memory: memory,
+            answer: 12,
+            sent: 0,
+        };
     }
+    let next = running::run(memory, kinds, operands, lines);
     Done {
         memory: next,
         answer: 0,

@@ -1,18 +1,20 @@
 // Sending a packet to nobody, to its receiver, or to each up neighbour.
 ghost use mathlib.Core.Path.{_≡_};
 ghost use mathlib.Core.List.{_++_};
-ghost use Prim.Native.Nat.{ℕ, _+_, _<_, _≤_};
-ghost use lib.ListN.{length};
+ghost use Prim.Native.Nat.{ℕ, suc, _+_, _<_, _≤_};
+ghost use lib.ListN.{length, take, drop};
 ghost use Rattle.model.specs.Memory.{Network, error, airLimit};
 ghost use Rattle.model.specs.Calls.{errors};
 ghost use Rattle.network.specs.declared.Packet.{Packet};
-ghost use Rattle.network.specs.View.{bodyOf, airOf};
+ghost use Rattle.network.specs.View.{bodyOf, packetsOf};
 ghost use Rattle.station.specs.Reacting.{sentBy};
-use network::Air;
+use network::AIR_LIMIT;
 use network::Packet;
 use network::links::neighbour_count;
 use network::packets::append;
 use network::packets::broadcast;
+use network::packets::remove;
+use network::packets::replace;
 
 // How many packets that is.
 pub fn copies(scope: u8, links: [bool; 256], n: u8, a: u8, p: Packet) -> u8
@@ -28,19 +30,53 @@ pub fn copies(scope: u8, links: [bool; 256], n: u8, a: u8, p: Packet) -> u8
     neighbour_count(links, n, a)
 }
 
-// The air with these packets last.
-pub fn transmit(air: Air, scope: u8, links: [bool; 256], n: u8, a: u8, p: Packet) -> Air
+// The packets with these from place `count` on.
+pub fn transmit(
+    packets: [Packet; AIR_LIMIT as usize],
+    count: u8,
+    scope: u8,
+    links: [bool; 256],
+    n: u8,
+    a: u8,
+    p: Packet,
+) -> [Packet; AIR_LIMIT as usize]
     requires { ⌜ (n ≤ 16) × (a < 16) ⌝ }
-    requires { ⌜ air .count + length (sentBy scope links n a p) ≤ airLimit ⌝ }
-    ensures { λ r. ⌜ airOf r ≡ airOf air ++ sentBy scope links n a p ⌝ }
+    requires { ⌜ count + length (sentBy scope links n a p) ≤ airLimit ⌝ }
+    ensures { λ r. ⌜ packetsOf r (count + length (sentBy scope links n a p)) ≡ packetsOf packets count ++ sentBy scope links n a p ⌝ }
 {
     if scope == 0 {
-        return air;
+        return packets;
     }
     if scope == 1 {
-        return append(air, p);
+        return append(packets, count as usize, p);
     }
-    broadcast(air, links, n, a, p)
+    broadcast(packets, count, links, n, a, p)
+}
+
+// The packets without packet k, which is one of the first `last` + 1, and with these from place `last` on.
+pub fn exchange(
+    packets: [Packet; AIR_LIMIT as usize],
+    last: u8,
+    k: usize,
+    scope: u8,
+    links: [bool; 256],
+    n: u8,
+    a: u8,
+    p: Packet,
+) -> [Packet; AIR_LIMIT as usize]
+    requires { ⌜ (n ≤ 16) × (a < 16) × (k ≤ last) × (last < airLimit) ⌝ }
+    requires { ⌜ last + length (sentBy scope links n a p) ≤ airLimit ⌝ }
+    ensures { λ r. ⌜ packetsOf r (last + length (sentBy scope links n a p))
+        ≡ (take k (packetsOf packets (last + 1)) ++ drop (suc k) (packetsOf packets (last + 1))) ++ sentBy scope links n a p ⌝ }
+{
+    let place = last as usize;
+    if scope == 0 {
+        return remove(packets, place, k);
+    }
+    if scope == 1 {
+        return replace(packets, place, k, p);
+    }
+    broadcast(remove(packets, place, k), last, links, n, a, p)
 }
 
 // The scope of an error with this mask: nobody where no row was emptied.

@@ -1,39 +1,17 @@
 -- Laws of a call's contract.
-use Prim.Native.Nat.{ℕ, _<_}
+use Prim.Native.Nat.{ℕ}
 use mathlib.Core.Path.{_≡_, refl, sym, ap, subst, _∙_}
-use mathlib.Core.Logic.{_≢_}
-use mathlib.Core.Bool.{Bool, true, false}
-use mathlib.Core.List.{List}
-use native.Mathlib.Omega.{arith}
+use mathlib.Core.Bool.{true, false}
 use Rattle.base.specs.Results.{Result, refused, accepted}
 use Rattle.model.specs.Memory.{Network, memoryInRange}
-use Rattle.model.specs.Calls.{Call, Effect, effect, after, notPair, step}
+use Rattle.model.specs.Calls.{Call, Effect, effect, after, step}
 use Rattle.model.proofs.Range.{Sized}
-use Rattle.model.proofs.Refusals.{pair-tells, OnMemory, out-of-range}
+use Rattle.model.proofs.Refusals.{OnMemory, out-of-range}
 use Rattle.model.proofs.Steps.{accepted-in-range}
-use Rattle.network.specs.declared.Row.{Row}
-use Rattle.network.specs.declared.Air.{Air}
 use Rattle.network.specs.declared.Memory.{Memory}
 use Rattle.network.specs.View.{view}
-use Rattle.network.proofs.Ranged.{Ranged}
 use Rattle.steps.specs.declared.Done.{Done}
 use Rattle.steps.specs.Called.{done, effectOf, Called}
-
--- The memory with other rows, another air and other links.
-abbrev pub changed : Memory → List Row → Air → List Bool → Memory
-changed memory rows air links = record {
-  s = memory .s;
-  m = memory .m;
-  d = memory .d;
-  rows = rows;
-  records = memory .records;
-  air = air;
-  numbers = memory .numbers;
-  sought = memory .sought;
-  active = memory .active;
-  links = links;
-  n = memory .n;
-}
 
 -- What is turned down gives the same memory.
 pub called-refused : (memory : Memory) (z : Result Effect) (number : ℕ) → z ≡ refused number → Called memory z (done memory number 0)
@@ -48,11 +26,6 @@ module _ (memory : Memory) (c : Call) where
   called-accepted r e sized h same =
       subst (λ z. Called memory z r) (sym h)
       (same, ap (λ (x : Effect). memoryInRange (x .net)) same ∙ accepted-in-range (view memory) sized c e h)
-
--- Two stations of memory in range.
-pub pair-below : (memory : Memory) → Ranged memory → (a b : ℕ) → notPair (view memory) a b ≡ false → (a < 16) × (b < 16) × (a ≢ b)
-unfolding view
-pair-below memory r a b e = let w = pair-tells (view memory) a b e in (omega (arith, w .0, r .high), omega (arith, w .1, r .high), w .2)
 
 -- Memory out of range.
 pub called-out-of-range : (memory : Memory) (c : Call) → OnMemory c → memoryInRange (view memory) ≡ false → Called memory (step c (view memory)) (done memory 1 0)

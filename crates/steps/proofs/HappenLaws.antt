@@ -17,7 +17,7 @@ use Rattle.network.specs.declared.Memory.{Memory}
 use Rattle.network.specs.View.{view}
 use Rattle.network.proofs.PacketLaws.{air-length}
 use Rattle.steps.specs.declared.Done.{Done}
-use Rattle.steps.specs.declared.events.Happened.{Happened}
+use Rattle.steps.specs.declared.Happened.{Happened}
 use Rattle.steps.specs.Called.{done, Called}
 use Rattle.steps.specs.Happens.{happened, Happens}
 use Rattle.steps.proofs.CallLaws.{called-out-of-range, called-after, called-in-range}

@@ -1,6 +1,12 @@
 pub mod CallLaws
-pub mod StationLaws
-pub mod LinkLaws
-pub mod DeliveryLaws
-pub mod TraceLaws
 pub mod HappenLaws
+pub mod PacketMoves
+pub mod RunLaws
+pub mod ArmLaws
+pub mod AirLaws
+pub mod DeliverLaws
+pub mod ChangeLaws
+pub mod CutLaws
+pub mod PartingLaws
+pub mod SingleLaws
+pub mod TraceLaws

@@ -5,7 +5,7 @@ use Rattle.model.specs.Calls.{step, trace}
 use Rattle.model.specs.Events.{Event, calls, traces, noEvent, noEventAnswer}
 use Rattle.network.specs.declared.Memory.{Memory}
 use Rattle.network.specs.View.{view}
-use Rattle.steps.specs.declared.events.Happened.{Happened}
+use Rattle.steps.specs.declared.Happened.{Happened}
 use Rattle.steps.specs.Called.{done, Called}
 
 abbrev pub happened : Memory → ℕ → ℕ → ℕ → Happened

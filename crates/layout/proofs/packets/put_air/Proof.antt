@@ -11,7 +11,7 @@ use Rattle.base.proofs.Loops.{tabulate-or}
 use Rattle.codec.proofs.ByteLaws.{sets-next}
 use Rattle.model.specs.Memory.{Packet, zeroPacket, airLimit}
 use Rattle.network.specs.declared.Air.{Air}
-use Rattle.network.specs.View.{packetOf, airOf}
+use Rattle.network.specs.View.{packetOf, packetsOf, airOf}
 use Rattle.network.proofs.PacketLaws.{air-length, packetIn}
 use Rattle.layout.specs.Written.{padded, packetBytes, airBytes}
 use Rattle.layout.specs.Fits.{BodyFits}
@@ -78,7 +78,7 @@ loop-less : tie.Need-loop-less Inv-loop μ-loop
 loop-less c = search needs
 
 loop-again : tie.Need-loop-again Inv-loop μ-loop
-unfolding airOf packetOf
+unfolding packetsOf packetOf
 loop-again c =
     let put = c .before .before in
     let loop = put .before .before .before .before .before .loop in

@@ -7,7 +7,7 @@ use borrow.Author.Needs.{needs}
 use Rattle.base.specs.Lists.{tabulate}
 use Rattle.label.specs.Label.{unassigned}
 use Rattle.model.specs.Memory.{freshLabels, freshRecord}
-use Rattle.network.specs.View.{rowOf, recordOf, airOf, labelOf}
+use Rattle.network.specs.View.{rowOf, recordOf, packetsOf, labelOf}
 use Rattle.network.proofs.ViewLaws.{Labels, labels-none, labels-own, view-fresh}
 use Rattle.network.proofs.opening.fresh.Statement.{statement}
 use Rattle.network.proofs.opening.fresh.Tie as tie
@@ -62,7 +62,7 @@ loop-again c =
     )
 
 returns : tie.Need-returns Inv-loop μ-loop
-unfolding rowOf recordOf airOf tabulate freshRecord unassigned
+unfolding rowOf recordOf packetsOf tabulate freshRecord unassigned
 returns c =
     let e : c .before .loop .t ≡ c .before .before .args .n = omega arith in
     view-fresh _ _ _ _ _ _ _ _ (rw e at (c .before .loop .inv .2)) refl refl refl

@@ -43,7 +43,7 @@ use Rattle.base.specs.Lists.{removed}
 use Rattle.base.proofs.Loops.{removed-none, removed-more, removed-length}
 use Rattle.network.specs.View.{zeroPacket}
 use Rattle.network.specs.declared.Packet.{Packet}
-use Rattle.network.proofs.Lent.{packet-typed, size, packets-at, packet-at, slice-type, slice-of, Slice, unset, holds, opened, local, var, opens, closes, takes-out, puts-back, replaces, exits-slice}
+use Rattle.network.proofs.packets.Lent.{packet-typed, size, packets-at, packet-at, slice-type, slice-of, Slice, unset, holds, opened, local, var, opens, closes, takes-out, puts-back, replaces, exits-slice}
 use Rattle.network.proofs.Packet as packet
 use Rattle.network.proofs.Packet.Laws as packet′
 use Rattle.network.proofs.packets.remove_from.Key.{name as #remove-from}

@@ -10,7 +10,7 @@ use Rattle.base.specs.Lists.{allBelow}
 use Rattle.base.proofs.Booleans.{not-was-true, not-was-false}
 use Rattle.base.proofs.Loops.{tabulate-length, all-none, all-more, all-ends, all-broken, all-tabulate}
 use Rattle.model.specs.Memory.{packetInRange, airInRange}
-use Rattle.network.specs.View.{zeroPacket, packetOf, airOf}
+use Rattle.network.specs.View.{zeroPacket, packetOf, packetsOf}
 use Rattle.network.proofs.range.air_in_range.Statement.{statement}
 use Rattle.network.proofs.range.air_in_range.Tie as tie
 
@@ -21,7 +21,7 @@ abbrev μ-loop : tie.MeasureT-loop
 μ-loop n air count k₀ k = count - k
 
 returns : tie.Need-returns Inv-loop μ-loop
-unfolding airInRange airOf
+unfolding airInRange packetsOf
 returns c = simp (tabulate-length, lt-leb _ _ (c .if1 .taken))
 
 cast-count : tie.Need-cast-count Inv-loop μ-loop
@@ -40,7 +40,7 @@ packet-in-range-requires : tie.Need-packet-in-range-requires Inv-loop μ-loop
 packet-in-range-requires c κs = search needs
 
 returns-2 : tie.Need-returns-2 Inv-loop μ-loop
-unfolding airInRange airOf
+unfolding airInRange packetsOf
 returns-2 c =
     let past = c .before .before .before .before .before in
     simp (tabulate-length, le-leb _ _ (past .if1 .left))
@@ -58,7 +58,7 @@ loop-again c =
     (omega arith, all-more _ _ (turn .loop .inv .1) (not-was-true _ _ (c .before .packet-in-range .ensures) (c .if2 .left)))
 
 returns-3 : tie.Need-returns-3 Inv-loop μ-loop
-unfolding airInRange airOf
+unfolding airInRange packetsOf
 returns-3 c =
     simp (tabulate-length, le-leb _ _ (c .before .before .if1 .left))
     (sym (all-tabulate _ _ _ ∙ all-ends _ _ _ (omega arith) (c .before .loop .inv .1)))

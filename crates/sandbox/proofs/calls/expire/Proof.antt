@@ -1,22 +1,15 @@
--- `calls::expire` meets its contract: refused with 1, or the call on memory in range.
+-- `calls::expire` meets its contract: the call of kind 5.
 use borrow.Author.Needs.{needs}
-use Rattle.base.proofs.Booleans.{not-was-true, not-was-false}
-use Rattle.model.specs.Calls.{Expire}
-use Rattle.steps.proofs.CallLaws.{called-out-of-range}
+use Rattle.model.specs.Events.{usesOne, notEvent, callOf}
 use Rattle.sandbox.proofs.calls.expire.Statement.{statement}
 use Rattle.sandbox.proofs.calls.expire.Tie as tie
 
-in-range-requires : tie.Need-in-range-requires
-in-range-requires c κs = search needs
+call-requires : tie.Need-call-requires
+call-requires c κs = search needs
 
 returns : tie.Need-returns
-returns c = called-out-of-range _ (Expire _ _) tt (not-was-false _ _ (c .before .in-range .ensures) (c .if1 .taken))
-
-expire-requires : tie.Need-expire-requires
-expire-requires c κs = not-was-true _ _ (c .before .in-range .ensures) (c .if1 .left)
-
-returns-2 : tie.Need-returns-2
-returns-2 c = c .expire .ensures
+unfolding callOf notEvent usesOne
+returns c = c .call .ensures (search needs) (search needs)
 
 pub expire-spec : {M : Type 1} → statement M
-expire-spec = tie.close (tie.spec in-range-requires returns expire-requires returns-2)
+expire-spec = tie.close (tie.spec call-requires returns)

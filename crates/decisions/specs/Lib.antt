@@ -1,0 +1,3 @@
+pub mod Refusing
+pub mod Tracing
+pub mod Changing

@@ -1,0 +1,137 @@
+// Rows that lose a station: at Down a and b each lose the other, at an error its receiver loses its sender for the masked destinations.
+ghost use mathlib.Core.Path.{_≡_};
+ghost use mathlib.Core.Bool.{_&&_, _||_};
+ghost use Prim.Native.Nat.{_+_, _^_, _<_, _≤_};
+ghost use lib.Dec.{eqb};
+ghost use Rattle.base.specs.Choice.{if_then_else_};
+ghost use Rattle.base.specs.Lists.{someIn};
+ghost use Rattle.model.specs.Memory.{names, without, rowLimit};
+ghost use Rattle.model.specs.Calls.{bit, empties, errorOutcome};
+ghost use Rattle.network.specs.View.{rowOf};
+use network::Packet;
+use network::Row;
+use network::rows::bit;
+use network::rows::empties;
+use network::rows::has_station;
+use network::rows::marked;
+use network::rows::without_station;
+
+// Two stations, and the masks of the destinations for which the first loses the second, and the second the first.
+pub struct Cut {
+    pub mask: u16,
+    pub others: u16,
+    pub first: u8,
+    pub second: u8,
+}
+
+// Which rows Down, or the delivery of the error p, cuts.
+pub fn cut_of(kind: u8, a: u8, b: u8, p: Packet) -> Cut
+    ensures down { λ r. ⌜ (kind ≡ 2 → (r .first ≡ a) × (r .second ≡ b) × (r .mask ≡ 65_535) × (r .others ≡ 65_535)) ⌝ }
+    ensures error { λ r. ⌜ (kind ≡ 6 → (r .first ≡ p .receiver) × (r .second ≡ p .sender) × (r .mask ≡ p .mask) × (r .others ≡ 0)) ⌝ }
+{
+    let i = p.receiver;
+    let j = p.sender;
+    let mask = p.mask;
+    if kind == 2 {
+        return Cut {
+            mask: 65535,
+            others: 65535,
+            first: a,
+            second: b,
+        };
+    }
+    Cut {
+        mask: mask,
+        others: 0,
+        first: i,
+        second: j,
+    }
+}
+
+// Whether a row for t loses j.
+fn loses(row: Row, j: u8, mask: u16, t: u8) -> bool
+    requires { ⌜ (row .count ≤ rowLimit) × (t < 16) ⌝ }
+    ensures { λ r. ⌜ r ≡ bit mask t && someIn (names j) (rowOf row) ⌝ }
+{
+    if bit(mask, t) {
+        return has_station(row, j);
+    }
+    false
+}
+
+// Whether this empties it.
+fn loses_all(row: Row, j: u8, mask: u16, t: u8) -> bool
+    requires { ⌜ (row .count ≤ rowLimit) × (t < 16) ⌝ }
+    ensures { λ r. ⌜ r ≡ bit mask t && empties (names j) (rowOf row) ⌝ }
+{
+    if bit(mask, t) {
+        return empties(row, j);
+    }
+    false
+}
+
+// The row for t after it.
+pub fn cut_row(row: Row, j: u8, mask: u16, t: u8) -> Row
+    requires { ⌜ (row .count ≤ rowLimit) × (t < 16) ⌝ }
+    ensures { λ r. ⌜ rowOf r ≡ (if bit mask t then without (names j) (rowOf row) else rowOf row) ⌝ }
+{
+    if loses(row, j, mask, t) {
+        return without_station(row, j);
+    }
+    row
+}
+
+// The masks of the rows emptied so far, of the first station and of the second, and whether any row lost an entry.
+pub struct Losses {
+    pub emptied: u16,
+    pub others: u16,
+    pub removed: bool,
+}
+
+// The same with the rows of the two for t.
+pub fn with_rows(losses: Losses, cut: Cut, t: u8, row: Row, other: Row) -> Losses
+    requires { ⌜ (row .count ≤ rowLimit) × (other .count ≤ rowLimit) × (t < 16) × (losses .emptied < 2 ^ t) × (losses .others < 2 ^ t) ⌝ }
+    ensures emptied { λ r. ⌜ r .emptied ≡ losses .emptied + (if bit (cut .mask) t && empties (names (cut .second)) (rowOf row) then 2 ^ t else 0) ⌝ }
+    ensures others { λ r. ⌜ r .others ≡ losses .others + (if bit (cut .others) t && empties (names (cut .first)) (rowOf other) then 2 ^ t else 0) ⌝ }
+    ensures removed { λ r. ⌜ r .removed ≡ losses .removed || bit (cut .mask) t && someIn (names (cut .second)) (rowOf row)
+        || bit (cut .others) t && someIn (names (cut .first)) (rowOf other) ⌝ }
+{
+    let emptied = losses.emptied;
+    let others = losses.others;
+    let removed = losses.removed;
+    let i = cut.first;
+    let j = cut.second;
+    let mine = cut.mask;
+    let theirs = cut.others;
+    Losses {
+        emptied: marked(emptied, t, loses_all(row, j, mine, t)),
+        others: marked(others, t, loses_all(other, i, theirs, t)),
+        removed: removed | loses(row, j, mine, t) | loses(other, i, theirs, t),
+    }
+}
+
+// How many of n stations' rows are to be written: none where nothing was removed.
+pub fn turns_of(n: u8, removed: bool) -> u8
+    ensures { λ r. ⌜ r ≡ (if removed then n else 0) ⌝ }
+{
+    if removed {
+        return n;
+    }
+    0
+}
+
+// Down has no outcome number; of an error 121 nothing removed, 122 no row emptied, 123 some emptied.
+pub fn cut_answer(kind: u8, removed: bool, emptied: u16) -> u32
+    ensures { λ r. ⌜ r ≡ (if eqb kind 2 then 0 else errorOutcome removed emptied) ⌝ }
+{
+    if kind == 2 {
+        return 0;
+    }
+    if !removed {
+        return 121;
+    }
+    if emptied == 0 {
+        return 122;
+    }
+    123
+}

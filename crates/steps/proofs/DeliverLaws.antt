@@ -1,0 +1,173 @@
+-- A request or a reply delivered, as a turn of the run makes it.
+use Prim.Native.Nat.{ℕ, suc, _+_, _-_, _%_, _≤_, _<_}
+use mathlib.Core.Path.{_≡_, refl, sym, ap, subst, _∙_}
+use mathlib.Core.Logic.{_≢_}
+use mathlib.Core.Bool.{false}
+use mathlib.Core.List.{List, _++_}
+use lib.ListN.{length, getD, set, take, drop, length-append, length-take, length-drop}
+use native.Mathlib.Omega.{arith}
+use Rattle.base.specs.Results.{refused, accepted}
+use Rattle.base.proofs.Lists.{map-set}
+use Rattle.label.specs.declared.Label.{Label}
+use Rattle.model.specs.Memory as model
+use Rattle.model.specs.Memory.{place, setLabels, setRows, setRecords, setActives, setAir, airLimit}
+use Rattle.model.specs.Calls.{Deliver, Effect, effect, limited, send, sending, removePacket, receive, deliver, step}
+use Rattle.model.specs.Events.{calls, eventOf}
+use Rattle.model.proofs.Refusals.{deliver-limited, sending-7, sending-accepted}
+use Rattle.model.proofs.EventLaws.{call-6}
+use Rattle.network.specs.declared.Packet.{Packet}
+use Rattle.network.specs.declared.Memory.{Memory}
+use Rattle.network.specs.View.{zeroNumber, zeroRow, zeroRecord, zeroPacket, rowOf, recordOf, bodyOf, packetOf, packetsOf, labelOf, view}
+use Rattle.network.proofs.ViewLaws.{row-at, record-at, number-at, label-at, labels-set}
+use Rattle.network.proofs.PacketLaws.{packets-count, packets-at}
+use Rattle.network.proofs.Ranged.{Carried, Ranged}
+use Rattle.station.specs.declared.Holding.{Holding}
+use Rattle.station.specs.declared.Reaction.{Reaction}
+use Rattle.station.specs.Reacting.{sentBy, Holds, holding, reacts}
+use Rattle.station.specs.Replying.{LastRequest, Ready}
+use Rattle.decisions.specs.Refusing.{Passes}
+use Rattle.steps.specs.Happens.{happened, Happens}
+use Rattle.steps.proofs.RunLaws.{airing, shape-sized}
+use Rattle.steps.proofs.ArmLaws.{Tested, known, passes, happens-accepted, happens-7}
+use Rattle.steps.proofs.AirLaws.{packet-there}
+
+-- One packet goes.
+pub removed-length : (packets : List Packet) (count k : ℕ) → k < count → length (take k (packetsOf packets count) ++ drop (suc k) (packetsOf packets count)) ≡ count - 1
+removed-length packets count k there =
+    length-append (take k (packetsOf packets count)) _
+    ∙ rw (length-take k (packetsOf packets count), length-drop (suc k) (packetsOf packets count), packets-count packets count) (omega (arith, there))
+
+module _ (memory : Memory) (packets : List Packet) (count kind a b r : ℕ) (h : Tested memory packets count kind a b r) (zero : r ≡ 0) (e : kind ≡ 6) where
+  abbrev m : Memory
+  m = airing memory packets count
+
+  abbrev ranged : Ranged m
+  ranged = known memory packets count kind a b r h
+
+  delivers : (eventOf kind a b ≡ calls (Deliver a)) × Passes (Deliver a) (view m)
+  delivers = passes memory packets count kind a b r h zero (Deliver a) (λ q. omega arith) (call-6 kind a b e)
+
+  pub arrives : (a < count) × (a % 128 ≡ a)
+  unfolding Passes
+  arrives = packet-there memory packets count kind a b r h zero (delivers .1)
+
+  abbrev p : Packet
+  p = getD packets (a % 128) zeroPacket
+
+  pub carried : Carried (memory .n) p
+  carried = rw (arrives .1) (ranged .packet a (arrives .0))
+
+  -- The other packets.
+  abbrev pub rest : List model.Packet
+  rest = take a (packetsOf packets count) ++ drop (suc a) (packetsOf packets count)
+
+  pub rest-length : length rest ≡ count - 1
+  rest-length = removed-length packets count a (arrives .0)
+
+  abbrev flying : model.Network
+  flying = setAir rest (view m)
+
+  pub delivered : step (Deliver a) (view m) ≡ limited (receive (p .receiver) (p .sender) (bodyOf p) flying)
+  unfolding Passes deliver removePacket view packetOf
+  delivered =
+      deliver-limited (view m) (h .ranged) a (delivers .1)
+      ∙ ap limited (rw (packets-at packets count a model.zeroPacket (arrives .0), arrives .1))
+
+  pub deliver-7 : step (Deliver a) (view m) ≡ refused 7 → Happens m (eventOf kind a b) (happened m 7 0 0)
+  deliver-7 s = happens-7 memory packets count kind a b r h zero (Deliver a) (delivers .0) s
+
+  pub deliver-accepted : (next : Memory) (answer sent : ℕ) (f : Effect) → step (Deliver a) (view m) ≡ accepted f → effect answer sent (view next) ≡ f
+      → Happens m (eventOf kind a b) (happened next answer sent 0)
+  deliver-accepted next answer sent f s same = happens-accepted memory packets count kind a b r h zero (Deliver a) (delivers .0) next answer sent f s same
+
+  -- A request or a reply, and what its receiver holds.
+  module _ (q : p .kind ≢ 3) (cell slot : ℕ) (l : Label) (cell-is : cell ≡ place (p .receiver) (p .destination)) (slot-is : slot ≡ place (p .receiver) (p .source))
+      (label-is : l ≡ labelOf (memory .s) (memory .m) (memory .d) cell) where
+    abbrev held : Holding
+    held = record {
+      label = l;
+      row = getD (memory .rows) cell zeroRow;
+      kept = getD (memory .records) slot zeroRecord;
+      active = getD (memory .active) (p .receiver) false;
+    }
+
+    -- The stations that it names.
+    pub inside : (p .receiver < 16) × (p .source < 16) × (p .destination < 16)
+    inside =
+        let head = carried .head q in
+        (omega (arith, carried .receiver-below, ranged .high), omega (arith, head .source-below, ranged .high), omega (arith, head .destination-below, ranged .high))
+
+    pub ready : Ready p held
+    unfolding recordOf
+    ready =
+        let head = carried .head q in
+        record {
+          receiver-below = inside .0;
+          label-ranged = head .ranged;
+          row-short = rw cell-is (ranged .row-count (p .receiver) (p .destination) (carried .receiver-below) (head .destination-below));
+          cached-ranged = λ n. rw slot-is (ranged .kept (p .receiver) (p .source) (carried .receiver-below) (head .source-below) n .ranged);
+          hop-below = λ n. rw slot-is (omega (arith, ranged .kept (p .receiver) (p .source) (carried .receiver-below) (head .source-below) n .hop-below, ranged .high));
+        }
+
+    holds : Holds flying p held
+    unfolding view setAir
+    holds =
+        let sizes = shape-sized memory packets count (h .shape) in
+        record {
+          inside = record {
+            receiver-below = inside .0;
+            source-below = inside .1;
+            destination-below = inside .2;
+            labels-length = sizes .labels-length;
+            rows-length = sizes .rows-length;
+            records-length = sizes .records-length;
+            active-length = h .shape .active-length;
+          };
+          label-is = label-at (memory .s) (memory .m) (memory .d) (place (p .receiver) (p .destination)) (omega (arith, inside))
+              ∙ sym (label-is ∙ ap (labelOf (memory .s) (memory .m) (memory .d)) cell-is);
+          row-is = row-at (memory .rows) (place (p .receiver) (p .destination)) ∙ rw cell-is;
+          record-is = record-at (memory .records) (place (p .receiver) (p .source)) ∙ rw slot-is;
+          active-is = refl;
+        }
+
+    -- What the receiver does with it.
+    module _ (f : Reaction) (reacted : (net : model.Network) → Holds net p held → LastRequest net p (getD (memory .numbers) (p .receiver) zeroNumber .0) (getD (memory .sought) (p .receiver) 0)
+        → net .links ≡ memory .links → reacts f p net ≡ receive (p .receiver) (p .sender) (bodyOf p) net) where
+      abbrev sent : List model.Packet
+      sent = sentBy (f .scope) (memory .links) (memory .n) (p .receiver) (f .packet)
+
+      reacts-so : step (Deliver a) (view m) ≡ limited (reacts f p flying)
+      unfolding view setAir
+      reacts-so =
+          delivered
+          ∙ ap limited (sym (reacted flying holds (record { number-is = number-at (memory .numbers) (p .receiver); sought-is = refl }) refl))
+
+      pub reaction-7 : airLimit < count - 1 + length sent → Happens m (eventOf kind a b) (happened m 7 0 0)
+      unfolding reacts holding view setAir setLabels setRows setRecords setActives
+      reaction-7 full = deliver-7 (reacts-so ∙ sending-7 _ _ _ (rw rest-length full))
+
+      pub reaction-happens : (packets′ : List Packet) → count - 1 + length sent ≤ airLimit → packetsOf packets′ (count - 1 + length sent) ≡ rest ++ sent
+          → Happens m (eventOf kind a b) (happened (record {
+            s = set (memory .s) cell (f .holding .label .s .0);
+            m = set (memory .m) cell (f .holding .label .m);
+            d = set (memory .d) cell (f .holding .label .d);
+            rows = set (memory .rows) cell (f .holding .row);
+            records = set (memory .records) slot (f .holding .kept);
+            air = record { packets = packets′; count = count - 1 + length sent };
+            numbers = memory .numbers;
+            sought = memory .sought;
+            active = set (memory .active) (p .receiver) (f .holding .active);
+            links = memory .links;
+            n = memory .n;
+          }) (f .answer) (length sent) 0)
+      unfolding reacts holding view setAir setLabels setRows setRecords setActives sending send
+      reaction-happens packets′ room g =
+          deliver-accepted _ (f .answer) (length sent) (reacts f p flying) (reacts-so ∙ sending-accepted (f .answer) sent (holding p (f .holding) flying) (rw rest-length room))
+          (rw (
+            labels-set (memory .s) (memory .m) (memory .d) (h .shape .labels) cell _ _ _ (omega (arith, cell-is, inside)),
+            map-set rowOf (memory .rows),
+            map-set recordOf (memory .records),
+            g,
+            cell-is,
+            slot-is,
+          ))

@@ -1,0 +1,322 @@
+-- Down, and an error delivered, as a turn of the run makes them.
+use Prim.Native.Nat.{ℕ, zero, suc, _+_, _-_, _%_, _/_, _^_, _≤_, _<_}
+use mathlib.Core.Path.{_≡_, refl, sym, ap, ap₂, subst, _∙_}
+use mathlib.Core.Logic.{_≢_, _⊎_, inl, inr}
+use mathlib.Core.Bool.{Bool, true, false, not, _&&_, _||_, or-false, and-false, and-true}
+use mathlib.Core.List.{List, [], _∷_, _++_, map, append-nil, append-assoc}
+use lib.ListN.{length, getD, set, length-append, length-map}
+use lib.Seq.{set-getD}
+use lib.Dec.{eqb}
+use native.Mathlib.Nat.{zero-div}
+use native.Mathlib.Omega.{arith}
+use Rattle.base.specs.Choice.{if_then_else_}
+use Rattle.base.specs.Lists.{keep, someBelow}
+use Rattle.base.specs.Results.{refused, accepted}
+use Rattle.model.specs.Memory as model
+use Rattle.model.specs.Memory.{Network, error, pairPlace, names, setRows, setLinks, setAir, airLimit}
+use Rattle.model.specs.Calls.{Down, Deliver, Effect, effect, limited, send, sending, errors, receive, onError, errorOutcome, step}
+use Rattle.model.specs.Calls.{takeOut, removes, emptied, between, everyDestination, lost, parted, down, bit}
+use Rattle.model.specs.Events.{calls, eventOf}
+use Rattle.model.proofs.Refusals.{pair-tells, down-limited, sending-7, sending-accepted}
+use Rattle.model.proofs.EventLaws.{call-2}
+use Rattle.model.proofs.Rows.{takeOut-length, takeOut-full, emptied-full}
+use Rattle.network.specs.declared.Row.{Row}
+use Rattle.network.specs.declared.Packet.{Packet}
+use Rattle.network.specs.declared.Air.{Air}
+use Rattle.network.specs.declared.Memory.{Memory}
+use Rattle.network.specs.View.{zeroPacket, rowOf, bodyOf, packetsOf, view}
+use Rattle.network.proofs.ViewLaws.{body-error}
+use Rattle.network.proofs.Ranged.{Ranged}
+use Rattle.station.specs.Reacting.{sentBy}
+use Rattle.decisions.specs.declared.cutting.Cut.{Cut}
+use Rattle.decisions.specs.declared.cutting.Losses.{Losses}
+use Rattle.decisions.specs.Refusing.{Passes}
+use Rattle.steps.specs.Happens.{happened, Happens}
+use Rattle.steps.specs.Parting.{restOf}
+use Rattle.steps.proofs.RunLaws.{airing, Shape}
+use Rattle.steps.proofs.ArmLaws.{Tested, known, passes, happens-accepted, happens-7, both-below}
+use Rattle.steps.proofs.DeliverLaws.{arrives, carried, rest, delivered, deliver-7, deliver-accepted}
+use Rattle.steps.proofs.CutLaws.{Lost}
+
+-- Where no destination is masked nothing is taken out.
+never : (t : ℕ) → bit 0 t ≡ false
+unfolding bit
+never t = rw (zero-div (2 ^ t))
+
+module _ (leaves : model.Successor → Bool) (i : ℕ) (rows : List model.Row) where
+  takeOut-never : (c : ℕ) → takeOut (bit 0) leaves i c rows ≡ rows
+  unfolding takeOut
+  takeOut-never zero = refl
+  takeOut-never (suc c) = rw (never c) (takeOut-never c)
+
+  emptied-never : (c : ℕ) → emptied (bit 0) leaves i c rows ≡ 0
+  unfolding emptied
+  emptied-never zero = refl
+  emptied-never (suc c) = rw (never c, emptied-never c)
+
+  removes-never : (c : ℕ) → removes (bit 0) leaves i c rows ≡ false
+  unfolding removes someBelow
+  removes-never zero = refl
+  removes-never (suc c) = rw (never c, removes-never c)
+
+-- Whose rows are cut: two stations.
+pub cut-below : (memory : Memory) (packets : List Packet) (count kind a b r : ℕ) → Tested memory packets count kind a b r → r ≡ 0 → (cut : Cut)
+    → let p = getD packets (a % 128) zeroPacket in (kind ≡ 2) ⊎ ((kind ≡ 6) × (p .kind ≡ 3))
+    → (kind ≡ 2 → (cut .first ≡ a) × (cut .second ≡ b) × (cut .mask ≡ 65_535) × (cut .others ≡ 65_535))
+    → (kind ≡ 6 → (cut .first ≡ p .receiver) × (cut .second ≡ p .sender) × (cut .mask ≡ p .mask) × (cut .others ≡ 0))
+    → (cut .first < memory .n) × (cut .second < memory .n) × (cut .first ≢ cut .second)
+unfolding Passes view
+cut-below memory packets count kind a b r h none cut (inl e) parts errs =
+    let is = passes memory packets count kind a b r h none (Down a b) (λ x. omega arith) (call-2 kind a b e) in
+    let w = pair-tells (view (airing memory packets count)) a b (is .1 .0) in
+    let k = parts e in
+    (omega (arith, k .0, w .0), omega (arith, k .1, w .1), λ q. w .2 (sym (k .0) ∙ q ∙ k .1))
+cut-below memory packets count kind a b r h none cut (inr w) parts errs =
+    let c = carried memory packets count kind a b r h none (w .0) in
+    let k = errs (w .0) in
+    (omega (arith, k .0, c .receiver-below), omega (arith, k .1, c .sender-below), λ q. c .apart (sym (k .1) ∙ sym q ∙ k .0))
+
+-- The packets of an error, by its scope.
+abbrev ErrorScope : ℕ → ℕ → Type 0
+ErrorScope scope mask = (net : Network) (a : ℕ) (p : Packet) → bodyOf p ≡ error mask → sentBy scope (net .links) (net .n) a p ≡ errors net a mask
+
+-- What is known where the code has gathered and decided: whose rows are cut (Down, or the error p), what they lose, the links, and what is sent.
+pub record Cutting (memory : Memory) (kind a b : ℕ) (p : Packet) (cut : Cut) (losses : Losses) (links : List Bool) (scope other : ℕ) (q z : Packet) : Type 0 where
+  pub which : (kind ≡ 2) ⊎ ((kind ≡ 6) × (p .kind ≡ 3))
+  pub down-cuts : kind ≡ 2 → (cut .first ≡ a) × (cut .second ≡ b) × (cut .mask ≡ 65_535) × (cut .others ≡ 65_535)
+  pub error-cuts : kind ≡ 6 → (cut .first ≡ p .receiver) × (cut .second ≡ p .sender) × (cut .mask ≡ p .mask) × (cut .others ≡ 0)
+  pub lost-is : Lost cut (map rowOf (memory .rows)) (memory .n) losses
+  pub links-are : links ≡ set (memory .links) (pairPlace (cut .first) (cut .second)) (getD (memory .links) (pairPlace (cut .first) (cut .second)) false && not (eqb kind 2))
+  pub first-is : bodyOf q ≡ error (losses .emptied)
+  pub first-sends : ErrorScope scope (losses .emptied)
+  pub second-is : bodyOf z ≡ error (losses .others)
+  pub second-sends : ErrorScope other (losses .others)
+
+module _ (memory : Memory) (packets : List Packet) (count kind a b r : ℕ) (h : Tested memory packets count kind a b r) (zero : r ≡ 0)
+    (cut : Cut) (losses : Losses) (links : List Bool) (scope other : ℕ) (q z : Packet) (g : Cutting memory kind a b (getD packets (a % 128) zeroPacket) cut losses links scope other q z) where
+  abbrev m : Memory
+  m = airing memory packets count
+
+  abbrev ranged : Ranged m
+  ranged = known memory packets count kind a b r h
+
+  abbrev p : Packet
+  p = getD packets (a % 128) zeroPacket
+
+  abbrev all : List model.Row
+  all = map rowOf (memory .rows)
+
+  abbrev left : List model.Packet
+  left = restOf kind (packetsOf packets count) (a % 128) (cut .first) (cut .second)
+
+  abbrev sent : List model.Packet
+  sent = sentBy scope links (memory .n) (cut .first) q
+
+  abbrev more : List model.Packet
+  more = sentBy other links (memory .n) (cut .second) z
+
+  -- The memory after it.
+  abbrev next : List Row → Air → Memory
+  next rows air = record {
+    s = memory .s;
+    m = memory .m;
+    d = memory .d;
+    rows = rows;
+    records = memory .records;
+    air = air;
+    numbers = memory .numbers;
+    sought = memory .sought;
+    active = memory .active;
+    links = links;
+    n = memory .n;
+  }
+
+  abbrev flown : List Packet → Air
+  flown packets′ = record { packets = packets′; count = length left + length sent + length more }
+
+  -- The rows with each station taken out of the other's.
+  abbrev taken : List model.Row
+  taken = takeOut (bit (cut .others)) (names (cut .first)) (cut .second) (memory .n) (takeOut (bit (cut .mask)) (names (cut .second)) (cut .first) (memory .n) all)
+
+  pub next-shape : (rows : List Row) (air : Air) (packets′ : List Packet) → map rowOf rows ≡ taken → length packets′ ≡ airLimit → Shape (next rows air) packets′
+  next-shape rows air packets′ t long = record {
+    labels = h .shape .labels;
+    rows-length =
+        sym (length-map rows rowOf) ∙ ap length t
+        ∙ takeOut-length (bit (cut .others)) (names (cut .first)) (cut .second) _ (memory .n)
+        ∙ takeOut-length (bit (cut .mask)) (names (cut .second)) (cut .first) all (memory .n)
+        ∙ length-map (memory .rows) rowOf ∙ h .shape .rows-length;
+    records-length = h .shape .records-length;
+    sought-length = h .shape .sought-length;
+    active-length = h .shape .active-length;
+    packets-length = long;
+  }
+
+  -- Down.
+  module _ (e : kind ≡ 2) where
+    parts : (eventOf kind a b ≡ calls (Down a b)) × Passes (Down a b) (view m)
+    parts = passes memory packets count kind a b r h zero (Down a b) (λ x. omega arith) (call-2 kind a b e)
+
+    limited-down : step (Down a b) (view m) ≡ limited (down a b (view m))
+    unfolding Passes
+    limited-down = down-limited (view m) (h .ranged) a b (parts .1 .0) (parts .1 .1)
+
+    abbrev after : Network
+    after = parted a b (view m)
+
+    links-down : links ≡ after .links
+    unfolding parted setRows setAir setLinks view
+    links-down = let w = g .down-cuts e in rw (g .links-are, w .0, w .1, e) (ap (set (memory .links) (pairPlace a b)) (and-false (getD (memory .links) (pairPlace a b) false)))
+
+    rest-down : left ≡ after .air
+    unfolding restOf parted setRows setAir setLinks view
+    rest-down = let w = g .down-cuts e in rw (w .0, w .1, e)
+
+    first-down : sent ≡ errors after a (lost (view m) a b)
+    unfolding lost view parted setRows setAir setLinks
+    first-down =
+        let w = g .down-cuts e in
+        rw (links-down, w .0) (g .first-sends after a q (g .first-is))
+        ∙ ap (errors after a) (g .lost-is .emptied-is ∙ rw (w .0, w .1, w .2) (emptied-full (names b) a (memory .n) all (ranged .high)))
+
+    second-down : more ≡ errors after b (lost (view m) b a)
+    unfolding lost view parted setRows setAir setLinks
+    second-down =
+        let w = g .down-cuts e in
+        rw (links-down, w .1) (g .second-sends after b z (g .second-is))
+        ∙ ap (errors after b) (g .lost-is .others-are ∙ rw (w .0, w .1, w .3) (emptied-full (names a) b (memory .n) all (ranged .high)))
+
+    down-is : down a b (view m) ≡ sending 0 (sent ++ more) after
+    unfolding down
+    down-is = rw (first-down, second-down)
+
+    down-7 : airLimit < length left + (length sent + length more) → Happens m (eventOf kind a b) (happened m 7 0 0)
+    down-7 full =
+        happens-7 memory packets count kind a b r h zero (Down a b) (parts .0)
+        (limited-down ∙ ap limited down-is ∙ sending-7 0 (sent ++ more) after (omega (arith, ap length rest-down, length-append sent more)))
+
+    rows-down : taken ≡ after .rows
+    unfolding parted setRows setAir setLinks view
+    rows-down =
+        let w = g .down-cuts e in
+        rw (w .0, w .1, w .2, w .3)
+        (takeOut-full (names a) b (memory .n) _ (ranged .high) ∙ ap (takeOut everyDestination (names a) b (memory .n)) (takeOut-full (names b) a (memory .n) all (ranged .high)))
+
+    done-down : (rows : List Row) (packets′ : List Packet) (answer : ℕ) → map rowOf rows ≡ taken → packetsOf packets′ (length left + length sent + length more) ≡ (left ++ sent) ++ more
+        → answer ≡ 0 → effect answer (length sent + length more) (view (next rows (flown packets′))) ≡ sending 0 (sent ++ more) after
+    unfolding parted setRows setAir setLinks view sending send
+    done-down rows packets′ answer t f none = rw (none, sym (length-append sent more), f ∙ append-assoc left sent more, rest-down, t ∙ rows-down, links-down)
+
+    down-happens : (rows : List Row) (packets′ : List Packet) (answer : ℕ) → length left + (length sent + length more) ≤ airLimit → map rowOf rows ≡ taken
+        → packetsOf packets′ (length left + length sent + length more) ≡ (left ++ sent) ++ more
+        → answer ≡ 0 → Happens m (eventOf kind a b) (happened (next rows (flown packets′)) answer (length sent + length more) 0)
+    down-happens rows packets′ answer room t f none =
+        happens-accepted memory packets count kind a b r h zero (Down a b) (parts .0) (next rows (flown packets′)) answer (length sent + length more) (sending 0 (sent ++ more) after)
+        (limited-down ∙ ap limited down-is ∙ sending-accepted 0 (sent ++ more) after (omega (arith, ap length rest-down, length-append sent more)))
+        (done-down rows packets′ answer t f none)
+
+  -- An error p, from j to i.
+  module _ (e : kind ≡ 6) (is-error : p .kind ≡ 3) where
+    abbrev flying : Network
+    flying = setAir (rest memory packets count kind a b r h zero e) (view m)
+
+    error-is : step (Deliver a) (view m) ≡ limited (onError (p .receiver) (p .sender) (p .mask) flying)
+    unfolding receive
+    error-is = delivered memory packets count kind a b r h zero e ∙ ap limited (rw (body-error p is-error))
+
+    links-error : links ≡ memory .links
+    links-error = let w = g .error-cuts e in rw (g .links-are, e) (ap (set (memory .links) _) (and-true _) ∙ set-getD (memory .links) _ false)
+
+    rest-error : left ≡ flying .air
+    unfolding restOf setAir
+    rest-error = rw (e, arrives memory packets count kind a b r h zero e .1)
+
+    gone-is : losses .emptied ≡ emptied (bit (p .mask)) (names (p .sender)) (p .receiver) (memory .n) all
+    gone-is = let w = g .error-cuts e in g .lost-is .emptied-is ∙ rw (w .0, w .1, w .2)
+
+    removed-is : losses .removed ≡ removes (bit (p .mask)) (names (p .sender)) (p .receiver) (memory .n) all
+    removed-is =
+        let w = g .error-cuts e in
+        g .lost-is .removed-is ∙ rw (w .0, w .1, w .2, w .3, removes-never (names (p .receiver)) (p .sender) all (memory .n)) (or-false _)
+
+    first-error : sent ≡ errors flying (p .receiver) (losses .emptied)
+    unfolding view setAir
+    first-error = let w = g .error-cuts e in rw (links-error, w .0) (g .first-sends flying (p .receiver) q (g .first-is))
+
+    second-error : more ≡ []
+    unfolding view setAir errors
+    second-error =
+        let w = g .error-cuts e in
+        let none : losses .others ≡ 0 = g .lost-is .others-are ∙ rw (w .0, w .1, w .3) (emptied-never (names (p .receiver)) (p .sender) all (memory .n)) in
+        rw (links-error, w .1) (g .second-sends flying (p .sender) z (g .second-is) ∙ rw none)
+
+    abbrev after-error : Network
+    after-error = setRows (takeOut (bit (p .mask)) (names (p .sender)) (p .receiver) (memory .n) all) flying
+
+    onError-is : onError (p .receiver) (p .sender) (p .mask) flying ≡ sending (errorOutcome (losses .removed) (losses .emptied)) sent after-error
+    unfolding onError view setAir
+    onError-is = rw (removed-is, first-error, gone-is)
+
+    few : length more ≡ 0
+    few = ap length second-error
+
+    error-7 : airLimit < length left + (length sent + length more) → Happens m (eventOf kind a b) (happened m 7 0 0)
+    unfolding setRows
+    error-7 full =
+        deliver-7 memory packets count kind a b r h zero e
+        (error-is ∙ ap limited onError-is ∙ sending-7 (errorOutcome (losses .removed) (losses .emptied)) sent after-error (omega (arith, ap length rest-error, few)))
+
+    rows-error : taken ≡ takeOut (bit (p .mask)) (names (p .sender)) (p .receiver) (memory .n) all
+    rows-error = let w = g .error-cuts e in rw (w .0, w .1, w .2, w .3) (takeOut-never (names (p .receiver)) (p .sender) _ (memory .n))
+
+    done-error : (rows : List Row) (packets′ : List Packet) (answer : ℕ) → map rowOf rows ≡ taken → packetsOf packets′ (length left + length sent + length more) ≡ (left ++ sent) ++ more
+        → answer ≡ errorOutcome (losses .removed) (losses .emptied)
+        → effect answer (length sent + length more) (view (next rows (flown packets′))) ≡ sending (errorOutcome (losses .removed) (losses .emptied)) sent after-error
+    unfolding setRows setAir view sending send
+    done-error rows packets′ answer t f outcome =
+        let total : length sent + length more ≡ length sent = omega (arith, few) in
+        rw (
+          outcome,
+          total,
+          f ∙ ap (λ (l : List model.Packet). (left ++ sent) ++ l) second-error ∙ append-nil (left ++ sent),
+          rest-error,
+          t ∙ rows-error,
+          links-error,
+        )
+
+    error-happens : (rows : List Row) (packets′ : List Packet) (answer : ℕ) → length left + (length sent + length more) ≤ airLimit → map rowOf rows ≡ taken
+        → packetsOf packets′ (length left + length sent + length more) ≡ (left ++ sent) ++ more → answer ≡ errorOutcome (losses .removed) (losses .emptied)
+        → Happens m (eventOf kind a b) (happened (next rows (flown packets′)) answer (length sent + length more) 0)
+    unfolding setRows
+    error-happens rows packets′ answer room t f outcome =
+        deliver-accepted memory packets count kind a b r h zero e (next rows (flown packets′)) answer (length sent + length more) (sending (errorOutcome (losses .removed) (losses .emptied)) sent after-error)
+        (error-is ∙ ap limited onError-is ∙ sending-accepted (errorOutcome (losses .removed) (losses .emptied)) sent after-error (omega (arith, ap length rest-error, few)))
+        (done-error rows packets′ answer t f outcome)
+
+  -- Only Down has a second sender.
+  pub more-none : kind ≢ 2 → more ≡ []
+  more-none other = go (g .which)
+    where
+      go : (kind ≡ 2) ⊎ ((kind ≡ 6) × (p .kind ≡ 3)) → more ≡ []
+      go (inl e) = absurd (other e)
+      go (inr w) = second-error (w .0) (w .1)
+
+  -- Either.
+  pub cut-7 : airLimit < length left + (length sent + length more) → Happens m (eventOf kind a b) (happened m 7 0 0)
+  cut-7 full = go (g .which)
+    where
+      go : (kind ≡ 2) ⊎ ((kind ≡ 6) × (p .kind ≡ 3)) → Happens m (eventOf kind a b) (happened m 7 0 0)
+      go (inl e) = down-7 e full
+      go (inr w) = error-7 (w .0) (w .1) full
+
+  -- With the numbers that the code counted.
+  pub cut-happens : (stay first second : ℕ) → stay ≡ length left → first ≡ length sent → second ≡ length more
+      → (rows : List Row) (packets′ : List Packet) (answer : ℕ) → stay + (first + second) ≤ airLimit → map rowOf rows ≡ taken
+      → packetsOf packets′ (length left + length sent + length more) ≡ (left ++ sent) ++ more
+      → answer ≡ (if eqb kind 2 then 0 else errorOutcome (losses .removed) (losses .emptied))
+      → Happens m (eventOf kind a b) (happened (next rows (record { packets = packets′; count = stay + first + second })) answer (first + second) 0)
+  cut-happens stay first second x y u rows packets′ answer room t f outcome = rw (x, y, u) (go (g .which))
+    where
+      go : (kind ≡ 2) ⊎ ((kind ≡ 6) × (p .kind ≡ 3)) → Happens m (eventOf kind a b) (happened (next rows (flown packets′)) answer (length sent + length more) 0)
+      go (inl e) = down-happens e rows packets′ answer (omega (arith, x, y, u)) t f (outcome ∙ rw e)
+      go (inr w) = error-happens (w .0) (w .1) rows packets′ answer (omega (arith, x, y, u)) t f (outcome ∙ rw (w .0))

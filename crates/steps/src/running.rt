@@ -1,0 +1,242 @@
+// A run of events in place.
+ghost use mathlib.Core.Path.{_≡_};
+ghost use mathlib.Core.Bool.{true};
+ghost use Prim.Native.Nat.{_+_, _*_, _<_, _≤_};
+ghost use lib.ListN.{length, getD};
+ghost use lib.Seq.{sets};
+ghost use Rattle.base.specs.Lists.{tabulate};
+ghost use Rattle.model.specs.Memory.{memoryInRange};
+ghost use Rattle.model.specs.Events.{eventLimit};
+ghost use Rattle.network.specs.View.{view};
+ghost use Rattle.steps.specs.Ran.{Ran, told, ToldFit};
+use crate::lines::line;
+use crate::parting::left_of;
+use crate::parting::moved;
+use crate::parting::resent;
+use crate::parting::stay;
+use decisions::changing::change_of;
+use decisions::changing::class_of;
+use decisions::changing::expired;
+use decisions::changing::spot_of;
+use decisions::changing::told;
+use decisions::cutting::Losses;
+use decisions::cutting::cut_answer;
+use decisions::cutting::cut_of;
+use decisions::cutting::cut_row;
+use decisions::cutting::turns_of;
+use decisions::cutting::with_rows;
+use decisions::refusing::full;
+use decisions::refusing::refusal;
+use decisions::tracing::Walk;
+use decisions::tracing::advance;
+use label::label_of;
+use model::most_hops;
+use network::AIR_LIMIT;
+use network::Air;
+use network::Memory;
+use network::packets::error;
+use network::places::pair_place;
+use network::places::place;
+use station::Holding;
+use station::sending::copies;
+use station::sending::error_scope;
+
+// An event: its kind and its operands.
+pub struct Event {
+    pub kind: u8,
+    pub a: u8,
+    pub b: u8,
+}
+
+// Event i of a list.
+fn event_at(kinds: &[u8], operands: &[u8], i: usize) -> Event
+    requires { ⌜ (i < length (now kinds)) × (2 * i + 1 < length (now operands)) ⌝ }
+    ensures { λ r. ⌜ (r .kind ≡ getD (now (kinds .entry)) i 0) × (r .a ≡ getD (now (operands .entry)) (2 * i) 0) × (r .b ≡ getD (now (operands .entry)) (2 * i + 1) 0) ⌝ }
+{
+    let kind = kinds[i];
+    let a = operands[2 * i];
+    let b = operands[2 * i + 1];
+    Event {
+        kind: kind,
+        a: a,
+        b: b,
+    }
+}
+
+// Events one after the other. What each tells stands at its place in the lent array.
+pub fn run(mut memory: Memory, kinds: &[u8], operands: &[u8], lines: &mut [u64]) -> Memory
+    requires { ⌜ memoryInRange (view memory) ≡ true ⌝ }
+    requires { ⌜ (length (now kinds) ≤ eventLimit) × (length (now operands) ≡ 2 * length (now kinds)) × (length (now kinds) ≤ length (now lines)) ⌝ }
+    ensures memory { λ r. ⌜ Ran memory (now (kinds .entry)) (now (operands .entry)) (length (now (kinds .entry))) r ⌝ }
+    ensures fits { λ _. ⌜ ToldFit (view memory) (now (kinds .entry)) (now (operands .entry)) (length (now (kinds .entry))) ⌝ }
+    ensures told { λ _. ⌜ now (lines .exit) ≡ sets (now (lines .entry)) 0 (tabulate (length (now (kinds .entry))) (told (view memory) (now (kinds .entry)) (now (operands .entry)))) ⌝ }
+{
+    let n = memory.n;
+    let limit = most_hops(n);
+    let air = memory.air;
+    let mut packets = air.packets;
+    let mut count = air.count;
+    let mut i = 0;
+    while i < kinds.len() {
+        let event = event_at(kinds, operands, i);
+        let kind = event.kind;
+        let a = event.a;
+        let b = event.b;
+        let at = i;
+        i += 1;
+        let k = (a % AIR_LIMIT) as usize;
+        let p = packets[k];
+        let spot = spot_of(kind, a, b, p);
+        let station = spot.station;
+        let t = spot.destination;
+        let own = station as usize;
+        let pair = pair_place(station, t);
+        let linked = memory.links[pair];
+        let active = memory.active[own];
+        let last = memory.numbers[own];
+        let number = refusal(kind, a, b, n, count, linked, active, last);
+        let class = class_of(kind, p.kind);
+        if number != 0 {
+            lines[at] = line(number, 0, count, 0);
+        } else if class == 0 {
+            let cell = place(station, t);
+            let mut row = memory.rows[cell];
+            let successors = row.count;
+            row.count = expired(kind, successors);
+            memory.rows[cell] = row;
+            memory.links[pair] = linked | (kind == 1);
+            memory.active[own] = active & (kind != 4);
+            lines[at] = line(0, 0, count, 0);
+        } else if class == 1 {
+            let mut walk = Walk {
+                answer: 0,
+                at: station,
+                hops: 0,
+            };
+            while walk.answer == 0 {
+                let cell = place(walk.at, t);
+                let row = memory.rows[cell];
+                walk = advance(walk, row, t, limit);
+            }
+            lines[at] = line(walk.answer, 0, count, walk.hops);
+        } else if class == 2 {
+            let cut = cut_of(kind, a, b, p);
+            let first = cut.first;
+            let second = cut.second;
+            let edge = pair_place(first, second);
+            let up = memory.links[edge];
+            let mut links = memory.links;
+            links[edge] = up & (kind != 2);
+            let mut losses = Losses {
+                emptied: 0,
+                others: 0,
+                removed: false,
+            };
+            let mut u = 0;
+            while u < n {
+                let cell = place(first, u);
+                let slot = place(second, u);
+                let row = memory.rows[cell];
+                let other = memory.rows[slot];
+                losses = with_rows(losses, cut, u, row, other);
+                u += 1;
+            }
+            let left = left_of(kind, packets, count, k, first, second);
+            let q = error(losses.emptied);
+            let z = error(losses.others);
+            let scope = error_scope(losses.emptied);
+            let other = error_scope(losses.others);
+            let sent = copies(scope, links, n, first, q);
+            let more = copies(other, links, n, second, z);
+            if full(AIR_LIMIT, left, sent + more) {
+                lines[at] = line(7, 0, count, 0);
+            } else {
+                let turns = turns_of(n, losses.removed);
+                let mut v = 0;
+                while v < turns {
+                    let cell = place(first, v);
+                    let slot = place(second, v);
+                    let row = memory.rows[cell];
+                    let other = memory.rows[slot];
+                    memory.rows[cell] = cut_row(row, second, cut.mask, v);
+                    memory.rows[slot] = cut_row(other, first, cut.others, v);
+                    v += 1;
+                }
+                memory.links = links;
+                packets = resent(
+                    kind,
+                    packets,
+                    count,
+                    k,
+                    links,
+                    n,
+                    first,
+                    scope,
+                    q,
+                    second,
+                    other,
+                    z,
+                );
+                count = left + sent + more;
+                let answer = cut_answer(kind, losses.removed, losses.emptied);
+                lines[at] = line(answer, sent + more, count, 0);
+            }
+        } else {
+            let cell = place(station, t);
+            let slot = place(station, spot.source);
+            let s = memory.s[cell];
+            let m = memory.m[cell];
+            let d = memory.d[cell];
+            let row = memory.rows[cell];
+            let kept = memory.records[slot];
+            let sought = memory.sought[own];
+            let links = memory.links;
+            let held = Holding {
+                label: label_of(s, m, d),
+                row: row,
+                kept: kept,
+                active: active,
+            };
+            let c = change_of(kind, p, held, last, sought, links, station, t);
+            let packet = c.packet;
+            let left = stay(count, c.drops);
+            let sent = copies(c.scope, links, n, station, packet);
+            if full(AIR_LIMIT, left, sent) {
+                lines[at] = line(7, 0, count, 0);
+            } else {
+                let holding = c.holding;
+                let label = holding.label;
+                let successors = holding.row;
+                let noted = holding.kept;
+                let asked = c.number;
+                memory.s[cell] = label.s.0;
+                memory.m[cell] = label.m;
+                memory.d[cell] = label.d;
+                memory.rows[cell] = successors;
+                memory.records[slot] = noted;
+                memory.numbers[own] = asked;
+                memory.sought[own] = c.sought;
+                memory.active[own] = holding.active;
+                packets = moved(
+                    packets,
+                    count,
+                    k,
+                    c.drops,
+                    c.scope,
+                    links,
+                    n,
+                    station,
+                    packet,
+                );
+                count = left + sent;
+                lines[at] = line(c.answer, told(kind, sent), count, 0);
+            }
+        }
+    }
+    let flown = Air {
+        packets: packets,
+        count: count,
+    };
+    memory.air = flown;
+    memory
+}
