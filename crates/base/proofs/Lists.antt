@@ -169,6 +169,12 @@ some-more t (y ∷ l) x = ap (λ (b : Bool). t y || b) (some-more t l x) ∙ sym
 eqb-sym : (a b : ℕ) → eqb a b ≡ eqb b a
 eqb-sym a b = iff _ _ (λ e. eq-eqb b a (sym (eqb-true a b e))) (λ e. eq-eqb a b (sym (eqb-true b a e)))
 
+-- Where none leaves, all stay.
+pub all-kept : {A : Type 0} (f : A → Bool) (l : List A) → someIn f l ≡ false → keep (λ x. not (f x)) l ≡ l
+unfolding someIn keep
+all-kept f [] h = refl
+all-kept f (x ∷ l) h = let w = neither (f x) (someIn f l) h in rw (w .0, all-kept f l (w .1))
+
 -- Nothing is left where every element leaves.
 pub none-kept : {A : Type 0} (f : A → Bool) (l : List A) → isEmpty (keep (λ x. not (f x)) l) ≡ allIn f l
 unfolding isEmpty keep allIn

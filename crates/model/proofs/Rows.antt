@@ -7,19 +7,21 @@ use mathlib.Core.List.{List, [], _∷_, _++_, map-append, tail}
 use mathlib.Core.List.{List·Memᴰ, List·Memᴰ·head, List·Memᴰ·tail, List·Memᴰ·not-nil, List·Memᴰ·cases-cons}
 use mathlib.Core.List.{List·Memᴰ·append-cases, List·Memᴰ·eq-of-singleton, Memᴰ·map, Memᴰ·of-map}
 use lib.ListN.{length, getD, set, length-append, length-set}
-use lib.Seq.{getD-set-same, getD-set-other}
+use lib.Seq.{getD-set-same, getD-set-other, set-getD, set-comm}
 use lib.Dec.{ltb, eqb}
+use native.Mathlib.Nat.{zero-div}
+use native.Mathlib.Numerals.{add-one}
 use native.Mathlib.Omega.{arith}
 use borrow.Author.Tests.{lt-ltb, le-ltb, ltb-true, eqb-true, eqb-false, not-true}
 use Rattle.base.specs.Choice.{if_then_else_}
-use Rattle.base.specs.Lists.{allBelow, someIn, keep, indexOf, distinct}
-use Rattle.base.proofs.Booleans.{choose, cases, Trichotomy, less, equal, more, trichotomy}
-use Rattle.base.proofs.Lists.{all-below-at, none-in-at, keep-mem, mem-tail, length-tail, set-either}
+use Rattle.base.specs.Lists.{allBelow, someBelow, someIn, keep, indexOf, distinct}
+use Rattle.base.proofs.Booleans.{neither, choose, cases, Trichotomy, less, equal, more, trichotomy}
+use Rattle.base.proofs.Lists.{all-below-at, none-in-at, all-kept, keep-mem, mem-tail, length-tail, set-either}
 use Rattle.base.proofs.Lists.{distinct-cons, distinct-first, distinct-rest, distinct-tail, distinct-last}
 use Rattle.label.specs.declared.Label.{Label}
 use Rattle.label.specs.Label.{_≻_}
 use Rattle.model.specs.Memory.{Successor, Row, place, rowIn, names, stations, without, under, replace, withRoom, put, rowLimit}
-use Rattle.model.specs.Calls.{takeOut, empties, emptied, everyDestination, bit}
+use Rattle.model.specs.Calls.{takeOut, removes, empties, emptied, everyDestination, bit}
 
 station-mem : (r : Row) {e : Successor} → List·Memᴰ e r → List·Memᴰ (e .station) (stations r)
 station-mem r m = Memᴰ·map (λ e. e .station) m
@@ -253,3 +255,78 @@ module _ (leaves : Successor → Bool) (i c : ℕ) (rows : List Row) (h : c ≤ 
 
   pub emptied-full : emptied (bit 65535) leaves i c rows ≡ emptied everyDestination leaves i c rows
   emptied-full = emptied-same (bit 65535) everyDestination leaves i rows c (λ t l. full-mask t (omega arith))
+
+-- Entries taken out one destination after the other.
+module _ (masked : ℕ → Bool) (leaves : Successor → Bool) (i : ℕ) (rows : List Row) where
+  -- The rows from destination c on are as they were.
+  takeOut-rest : (c t : ℕ) → c ≤ t → rowIn (takeOut masked leaves i c rows) i t ≡ rowIn rows i t
+  unfolding takeOut
+  takeOut-rest zero t h = refl
+  takeOut-rest (suc c) t h =
+      let before = takeOut-rest c t (omega arith) in
+      choose (λ z. rowIn z i t ≡ rowIn rows i t) (masked c)
+      (λ q. getD-set-other (takeOut masked leaves i c rows) (place i c) (place i t) _ [] (λ e. omega arith) ∙ before) (λ q. before)
+
+  -- One destination more.
+  pub takeOut-more : (c : ℕ) → takeOut masked leaves i (c + 1) rows ≡ set (takeOut masked leaves i c rows) (place i c) ((if masked c then without leaves (rowIn rows i c) else rowIn rows i c))
+  unfolding takeOut
+  takeOut-more c = rw add-one (go (masked c))
+    where
+      before : List Row
+      before = takeOut masked leaves i c rows
+
+      go : (x : Bool) → (if x then set before (place i c) (without leaves (rowIn rows i c)) else before) ≡ set before (place i c) ((if x then without leaves (rowIn rows i c) else rowIn rows i c))
+      go true = refl
+      go false = sym (ap (set before (place i c)) (sym (takeOut-rest c c (omega arith))) ∙ set-getD before (place i c) [])
+
+  -- Where nothing is removed they are all as they were.
+  pub takeOut-none : (c : ℕ) → removes masked leaves i c rows ≡ false → takeOut masked leaves i c rows ≡ rows
+  unfolding takeOut removes someBelow without
+  takeOut-none zero h = refl
+  takeOut-none (suc c) h = let w = neither (removes masked leaves i c rows) (masked c && someIn leaves (rowIn rows i c)) h in go (masked c) (w .1) (takeOut-none c (w .0))
+    where
+      go : (x : Bool) → x && someIn leaves (rowIn rows i c) ≡ false → takeOut masked leaves i c rows ≡ rows
+          → (if x then set (takeOut masked leaves i c rows) (place i c) (without leaves (rowIn rows i c)) else takeOut masked leaves i c rows) ≡ rows
+      go true e same = rw (same, all-kept leaves (rowIn rows i c) e) (set-getD rows (place i c) [])
+      go false e same = same
+
+-- Another station's row that is written stays so.
+pub set-takeOut : (masked : ℕ → Bool) (leaves : Successor → Bool) (i j t : ℕ) (rows : List Row) (r : Row) → i ≢ j → t < 16 → (c : ℕ) → c ≤ 16
+    → takeOut masked leaves i c (set rows (place j t) r) ≡ set (takeOut masked leaves i c rows) (place j t) r
+unfolding takeOut
+set-takeOut masked leaves i j t rows r h ht zero hc = refl
+set-takeOut masked leaves i j t rows r h ht (suc c) hc =
+    rw (
+      set-takeOut masked leaves i j t rows r h ht c (omega arith),
+      getD-set-other rows (place j t) (place i c) r [] (λ e. h (omega arith)),
+    )
+    (go (masked c))
+  where
+    before : List Row
+    before = takeOut masked leaves i c rows
+
+    go : (x : Bool) → (if x then set (set before (place j t) r) (place i c) (without leaves (rowIn rows i c)) else set before (place j t) r)
+        ≡ set (if x then set before (place i c) (without leaves (rowIn rows i c)) else before) (place j t) r
+    go true = set-comm before (place j t) (place i c) r (without leaves (rowIn rows i c)) (λ e. h (omega arith))
+    go false = refl
+
+-- Where no destination is masked nothing is taken out.
+never : (t : ℕ) → bit 0 t ≡ false
+unfolding bit
+never t = rw (zero-div (2 ^ t))
+
+module _ (leaves : Successor → Bool) (i : ℕ) (rows : List Row) where
+  pub takeOut-never : (c : ℕ) → takeOut (bit 0) leaves i c rows ≡ rows
+  unfolding takeOut
+  takeOut-never zero = refl
+  takeOut-never (suc c) = rw (never c) (takeOut-never c)
+
+  pub emptied-never : (c : ℕ) → emptied (bit 0) leaves i c rows ≡ 0
+  unfolding emptied
+  emptied-never zero = refl
+  emptied-never (suc c) = rw (never c, emptied-never c)
+
+  pub removes-never : (c : ℕ) → removes (bit 0) leaves i c rows ≡ false
+  unfolding removes someBelow
+  removes-never zero = refl
+  removes-never (suc c) = rw (never c, removes-never c)

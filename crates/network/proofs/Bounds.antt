@@ -87,12 +87,16 @@ pub record MemoryLengths (m : Memory) : Type 0 where
   pub rows-length : length (m .rows) ≡ 256
   pub records-length : length (m .records) ≡ 256
   pub sought-length : length (m .sought) ≡ 16
+  pub active-length : length (m .active) ≡ 16
+  pub air-length : length (m .air .packets) ≡ airLimit
 
 pub memory-lengths : (m : Memory) → ValidMemory m → MemoryLengths m
 memory-lengths m valid = record {
   rows-length = unmapped _ (m .rows) 256 (valid .1 .1 .1 .1 .1 .0 .1 .0 .1);
   records-length = unmapped _ (m .records) 256 (valid .1 .1 .1 .1 .1 .1 .0 .1 .0 .1);
   sought-length = unmapped _ (m .sought) 16 (valid .1 .1 .1 .1 .1 .1 .1 .1 .1 .0 .1 .0 .1);
+  active-length = unmapped _ (m .active) 16 (valid .1 .1 .1 .1 .1 .1 .1 .1 .1 .1 .0 .1 .0 .1);
+  air-length = unmapped _ (m .air .packets) airLimit (valid .1 .1 .1 .1 .1 .1 .1 .0 .1 .1 .0 .1 .0 .1);
 }
 
 -- So the model's tables have their sizes.

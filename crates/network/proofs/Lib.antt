@@ -2,7 +2,6 @@ pub mod Bits
 pub mod ViewLaws
 pub mod Bounds
 pub mod RowLaws
-pub mod CutLaws
 pub mod PacketLaws
 pub mod RangeLaws
 pub mod Ranged

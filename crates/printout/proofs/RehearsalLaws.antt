@@ -5,70 +5,95 @@ use mathlib.Core.Logic.{_≢_}
 use mathlib.Core.Bool.{Bool, true, false}
 use mathlib.Core.List.{List, _++_, flatMap}
 use lib.ListN.{length, getD, take, replicate, length-replicate}
-use lib.Seq.{length-take-le, take-all}
+use lib.Seq.{sets, length-take-le, take-all, getD-take}
 use lib.Dec.{leb}
 use native.Mathlib.Omega.{arith}
 use borrow.Author.Tests.{leb-true, leb-false}
 use Rattle.base.specs.Lists.{tabulate}
 use Rattle.base.proofs.Lists.{flat-one}
-use Rattle.base.proofs.Loops.{tabulate-more}
-use Rattle.base.specs.Results.{Result}
+use Rattle.base.proofs.Loops.{tabulate-length, tabulate-more, tabulate-at}
+use Rattle.base.specs.Results.{Result, refused, accepted}
 use Rattle.codec.specs.Bytes.{over}
-use Rattle.codec.proofs.ByteLaws.{over-first}
-use Rattle.model.specs.Memory.{Network}
-use Rattle.model.specs.Calls.{notOpening}
+use Rattle.codec.proofs.ByteLaws.{over-first, sets-over}
+use Rattle.model.specs.Memory.{Network, fresh, memoryInRange}
+use Rattle.model.specs.Calls.{Effect, effect, step, notOpening}
 use Rattle.model.specs.Walks.{LoopFree}
-use Rattle.model.specs.Events.{eventAt, callsIn, eventLimit, afterFirst}
-use Rattle.model.specs.Printout.{Line, line, lineOf, labelLines, lineAt, eventLines, routeLines}
-use Rattle.model.proofs.Refusals.{fresh-reached}
+use Rattle.model.specs.Events.{Event, calls, traces, noEvent, eventAt, callsIn, eventLimit, afterEvents}
+use Rattle.model.specs.Printout.{Line, line, resultLine, lineOf, labelLines, lineAt, eventLines, routeLines}
+use Rattle.model.proofs.Range.{invariant-in-range}
+use Rattle.model.proofs.Refusals.{opening-accepted, fresh-reached}
+use Rattle.model.proofs.Steps.{opened-invariant}
 use Rattle.model.proofs.Walking.{loop-free}
 use Rattle.network.specs.declared.Memory.{Memory}
 use Rattle.network.specs.View.{view}
-use Rattle.steps.specs.declared.events.Happened.{Happened}
-use Rattle.steps.specs.Happens.{Happens}
-use Rattle.steps.proofs.HappenLaws.{happens-line}
-use Rattle.sandbox.proofs.RunLaws.{Ran}
+use Rattle.steps.specs.Lines.{packed, Fits}
+use Rattle.steps.specs.Ran.{Ran, told, ToldFit}
+use Rattle.steps.proofs.RunLaws.{ran-after}
 use Rattle.script.specs.declared.Found.{Found}
 use Rattle.script.specs.Script.{Script, decoded, reading}
 use Rattle.script.specs.Contracts.{foundOf, Reads}
 use Rattle.script.proofs.ScriptLaws.{operands-length, reading-whole, found-refused, reads-script}
 use Rattle.script.proofs.RoundTrip.{read-opens, too-long}
 use Rattle.printout.specs.Text.{refusalText, eventText, labelText, rehearsalText}
-use Rattle.printout.specs.Contracts.{PutsAt}
+use Rattle.printout.specs.Contracts.{PutsAt, Told}
 use Rattle.printout.specs.Printed.{textOf, printed, Prints, RoutesLoopFree}
 use Rattle.printout.proofs.TextLaws.{puts-over}
 
-module _ (n start : ℕ) (kinds operands : List ℕ) where
+-- The line of an event has its index, kind and operands.
+module _ (index kind a b : ℕ) (net : Network) where
+  result-line : (z : Result Effect) → let l = resultLine index kind a b net z in l ≡ line index kind a b (l .answer) (l .sent) (l .air) (l .hops)
+  unfolding resultLine
+  result-line (refused number) = refl
+  result-line (accepted e) = refl
+
+  line-of : (e : Event) → let l = lineOf index kind a b net e in l ≡ line index kind a b (l .answer) (l .sent) (l .air) (l .hops)
+  unfolding lineOf
+  line-of (calls c) = result-line (step c net)
+  line-of (traces x t) = refl
+  line-of noEvent = refl
+
+module _ (net : Network) (kinds operands : List ℕ) where
   -- The lines of the first i events.
   unfoldable pub textFirst : ℕ → List ℕ
-  textFirst i = flatMap eventText (tabulate i (lineAt n start kinds operands))
+  textFirst i = flatMap eventText (tabulate i (lineAt net kinds operands))
 
-  -- The line of the next event has the numbers that the code gave.
-  module _ (i : ℕ) (memory : Memory) (ran : Ran n start kinds operands i memory) (r : Happened) (h : Happens memory (eventAt kinds operands i) r) where
-    abbrev next : Line
-    next = line i (getD kinds i 0) (getD operands (2 * i) 0) (getD operands (2 * i + 1) 0) (r .answer) (r .sent) (r .memory .air .count) (r .hops)
+  -- One line more, with the numbers that were told.
+  pub text-more : (i answer sent air hops : ℕ) → let l = lineAt net kinds operands i in
+      answer ≡ l .answer → sent ≡ l .sent → air ≡ l .air → hops ≡ l .hops
+      → textFirst (i + 1) ≡ textFirst i ++ eventText (line i (getD kinds i 0) (getD operands (2 * i) 0) (getD operands (2 * i + 1) 0) answer sent air hops)
+  unfolding textFirst lineAt
+  text-more i answer sent air hops e₁ e₂ e₃ e₄ =
+      ap (flatMap eventText) (tabulate-more i (lineAt net kinds operands))
+      ∙ flat-one eventText (tabulate i (lineAt net kinds operands)) (lineAt net kinds operands i)
+      ∙ rw (e₁, e₂, e₃, e₄) (ap (λ (l : Line). textFirst i ++ eventText l) (line-of _ _ _ _ (afterEvents net kinds operands i) (eventAt kinds operands i)))
 
-    line-next : lineAt n start kinds operands i ≡ next
-    unfolding lineAt afterFirst
-    line-next =
-        let kind = getD kinds i 0 in
-        let a = getD operands (2 * i) 0 in
-        let b = getD operands (2 * i + 1) 0 in
-        ap (λ (net : Network). lineOf i kind a b net (eventAt kinds operands i)) (sym (ran .left))
-        ∙ happens-line memory i kind a b (eventAt kinds operands i) r h
+  -- What was told of event i.
+  module _ (lines : List ℕ) (w : Told net kinds operands lines) (i : ℕ) (h : i < length kinds) where
+    pub told-at : let l = lineAt net kinds operands i in (Fits (l .answer) (l .sent) (l .air) (l .hops)) × (getD lines i 0 ≡ packed (l .answer) (l .sent) (l .air) (l .hops))
+    unfolding told ToldFit
+    told-at = (
+      w .fit i h,
+      sym (getD-take (length kinds) lines i 0 h) ∙ ap (λ (l : List ℕ). getD l i 0) (w .are) ∙ tabulate-at (length kinds) (told net kinds operands) i 0 h,
+    )
 
-    pub text-more : textFirst (i + 1) ≡ textFirst i ++ eventText next
-    unfolding textFirst
-    text-more =
-        ap (flatMap eventText) (tabulate-more i (lineAt n start kinds operands))
-        ∙ flat-one eventText (tabulate i (lineAt n start kinds operands)) (lineAt n start kinds operands i)
-        ∙ ap (λ (l : Line). textFirst i ++ eventText l) line-next
+  -- What a run told in an array with room for it.
+  pub told-array : (lines lines′ : List ℕ) → length kinds ≤ length lines → ToldFit net kinds operands (length kinds)
+      → lines′ ≡ sets lines 0 (tabulate (length kinds) (told net kinds operands)) → Told net kinds operands lines′
+  told-array lines lines′ h fit e =
+      let numbers = tabulate (length kinds) (told net kinds operands) in
+      let k : length numbers ≡ length kinds = tabulate-length (length kinds) (told net kinds operands) in
+      record { fit = fit; are = over-first numbers lines lines′ (length kinds) (e ∙ sets-over lines numbers (omega (arith, h, k))) (sym k) .1 }
 
-  -- After the last event come the labels of its memory.
-  pub text-whole : (memory : Memory) → Ran n start kinds operands (length kinds) memory
-      → textFirst (length kinds) ++ flatMap labelText (labelLines (view memory) (view memory .n)) ≡ rehearsalText n start kinds operands
-  unfolding textFirst rehearsalText eventLines routeLines afterFirst
-  text-whole memory ran = ap (λ (net : Network). textFirst (length kinds) ++ flatMap labelText (labelLines net (net .n))) (ran .left)
+-- Fresh memory is in range.
+pub fresh-in-range : (n start : ℕ) → notOpening n start ≡ false → memoryInRange (fresh n start) ≡ true
+fresh-in-range n start h =
+    invariant-in-range (fresh n start) (opened-invariant {Reachable = ⊥} n start (effect 0 0 (fresh n start)) (opening-accepted n start h))
+
+-- After the run come the labels of the memory that it left.
+pub text-whole : (n start : ℕ) (kinds operands : List ℕ) (memory last : Memory) → view memory ≡ fresh n start → Ran memory kinds operands (length kinds) last
+    → flatMap eventText (eventLines (view memory) kinds operands) ++ flatMap labelText (labelLines (view last) (view last .n)) ≡ rehearsalText n start kinds operands
+unfolding rehearsalText routeLines
+text-whole n start kinds operands memory last e ran = rw (← e, ran-after memory kinds operands (length kinds) last ran)
 
 -- What is rehearsed of a script that was read into the first places of two arrays, and that its text is the printout.
 pub record Rehearsed (bytes kinds operands : List ℕ) (r : Found) : Type 0 where
@@ -120,10 +145,10 @@ module _ (bytes kinds operands : List ℕ) (r : Found) where
 
 -- The network whose labels are printed is one that a list of calls reaches, so no walk along its routes goes in a circle.
 pub routes-loop-free : (bytes : List ℕ) → RoutesLoopFree bytes
-unfolding RoutesLoopFree LoopFree afterFirst
+unfolding RoutesLoopFree LoopFree afterEvents
 routes-loop-free bytes s e =
-    let calls = callsIn (tabulate (length (s .kinds)) (eventAt (s .kinds) (s .operands))) in
-    loop-free _ (fresh-reached (s .n) (s .start) (read-opens bytes s eventLimit (2 * eventLimit) e) calls _ refl)
+    let made = callsIn (tabulate (length (s .kinds)) (eventAt (s .kinds) (s .operands))) in
+    loop-free _ (fresh-reached (s .n) (s .start) (read-opens bytes s eventLimit (2 * eventLimit) e) made _ refl)
 
 -- Text put at the start of an array with room for it, where it is the printout.
 pub prints : (bytes : List ℕ) {before text after : List ℕ} {end : ℕ} → PutsAt before 0 text end after → text ≡ printed bytes → end ≤ length before → Prints bytes before end after

@@ -44,6 +44,20 @@ pub digits-decimal : (n r : ℕ) → Fewest 10 1 n r → r ≤ 20 → digits 10 
 unfolding decimal
 digits-decimal n r f h = digits-of r 20 n f h
 
+-- The text of a number of one digit, of two, and of at most four.
+module _ (n : ℕ) where
+  pub decimal-one : n < 10 → decimal n ≡ (48 + n % 10) ∷ []
+  unfolding decimal digitsOf
+  decimal-one h = let last : n % 10 ≡ n = omega arith in rw (last, lt-ltb n 10 h)
+
+  pub decimal-two : 10 ≤ n → n < 100 → decimal n ≡ (48 + n / 10 % 10) ∷ (48 + n % 10) ∷ []
+  unfolding decimal digitsOf
+  decimal-two h k = let first : n / 10 % 10 ≡ n / 10 = omega arith in rw (first, le-ltb n 10 h, lt-ltb (n / 10) 10 (omega arith))
+
+  pub decimal-four : 100 ≤ n → n < 10_000 → decimal n ≡ (decimal (n / 10 / 10) ++ ((48 + n / 10 % 10) ∷ [])) ++ ((48 + n % 10) ∷ [])
+  unfolding decimal digitsOf
+  decimal-four h k = rw (le-ltb n 10 (omega arith), le-ltb (n / 10) 10 (omega arith), lt-ltb (n / 10 / 10 / 10) 10 (omega arith))
+
 -- A number below 10 ^ k has at most k digits.
 digits-within : (most n k : ℕ) → 0 < k → n < 10 ^ k → length (digitsOf most n) ≤ k
 unfolding digitsOf

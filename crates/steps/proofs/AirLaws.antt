@@ -1,18 +1,17 @@
 -- Solicit, Lose and Duplicate, as a turn of the run makes them.
 use Prim.Native.Nat.{ℕ, suc, _+_, _-_, _%_, _≤_, _<_}
-use mathlib.Core.Path.{_≡_, refl, sym, ap, _∙_}
+use mathlib.Core.Path.{_≡_, ap, _∙_}
 use mathlib.Core.Bool.{true, false}
 use mathlib.Core.Logic.{_≢_}
-use mathlib.Core.List.{List, [], _∷_, _++_, map}
-use lib.ListN.{length, getD, set, take, drop, length-map, length-append}
+use mathlib.Core.List.{List, [], _∷_, _++_}
+use lib.ListN.{length, getD, set, take, drop, length-append}
 use native.Mathlib.Omega.{arith}
 use borrow.Author.Tests.{lt-ltb, le-ltb}
-use Rattle.base.specs.Results.{refused, accepted}
 use Rattle.base.proofs.Lists.{map-set}
 use Rattle.base.proofs.Results.{refuse-holds, refuse-passes}
 use Rattle.label.specs.declared.Label.{Label}
 use Rattle.model.specs.Memory as model
-use Rattle.model.specs.Memory.{Network, place, linkIn, request, setNumbers, setSoughts, setActives, setAir, airLimit}
+use Rattle.model.specs.Memory.{Network, place, request, setNumbers, setSoughts, setActives, setAir, airLimit}
 use Rattle.model.specs.Calls.{Solicit, Lose, Duplicate, Effect, effect, limited, notPacket, packet, send, sending, neighbours, copies, solicit, removePacket, step}
 use Rattle.model.specs.Events.{calls, eventOf}
 use Rattle.model.proofs.Refusals.{packet-tells, solicit-limited, lose-accepted, duplicate-limited, sending-7, sending-accepted}

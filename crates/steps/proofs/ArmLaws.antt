@@ -3,18 +3,18 @@ use Prim.Native.Nat.{ℕ, _%_, _≤_, _<_}
 use mathlib.Core.Path.{_≡_, refl, sym, ap, ap₂, subst, _∙_}
 use mathlib.Core.Logic.{_≢_, _⊎_, inl, inr}
 use mathlib.Core.Bool.{Bool, true, false, not, _&&_, _||_, or-true, or-false, and-true, and-false}
-use mathlib.Core.List.{List, [], map}
+use mathlib.Core.List.{List, []}
 use lib.ListN.{getD, set, length-set}
 use lib.Seq.{set-getD}
 use lib.Dec.{eqb}
 use native.Mathlib.Omega.{arith}
-use borrow.Author.Tests.{eqb-true, eqb-false, ne-eqb}
+use borrow.Author.Tests.{eqb-true, ne-eqb}
 use Rattle.base.specs.Choice.{if_then_else_}
 use Rattle.base.specs.Results.{refused, accepted}
 use Rattle.base.proofs.Lists.{map-set}
 use Rattle.base.specs.Lists.{tabulate}
-use Rattle.model.specs.Memory.{Network, pairPlace, place, linkUp, memoryInRange, setLinks, setActives, setRows}
-use Rattle.model.specs.Calls.{Call, Up, GiveUp, Expire, Effect, effect, notPair, notStation, step, traced, hopLimit, follow, trace}
+use Rattle.model.specs.Memory.{pairPlace, place, memoryInRange, setLinks, setActives, setRows}
+use Rattle.model.specs.Calls.{Call, Up, GiveUp, Expire, Effect, effect, notPair, step, hopLimit, follow}
 use Rattle.model.specs.Events.{notEvent, callOf, Event, calls, traces, noEvent, eventOf}
 use Rattle.model.proofs.Refusals.{station-tells, pair-tells, up-accepted, give-up-accepted, expire-accepted}
 use Rattle.model.proofs.Links.{link-pair}
@@ -33,7 +33,6 @@ use Rattle.decisions.specs.declared.changing.Spot.{Spot}
 use Rattle.decisions.specs.Refusing.{Seen, Passes, Tests}
 use Rattle.decisions.specs.Tracing.{tells}
 use Rattle.decisions.specs.Changing.{classOf}
-use Rattle.steps.specs.declared.Happened.{Happened}
 use Rattle.steps.specs.Called.{done}
 use Rattle.steps.specs.Happens.{happened, Happens}
 use Rattle.steps.proofs.CallLaws.{called-refused, called-accepted}

@@ -1,9 +1,9 @@
 -- Solicit, Lose, Duplicate, and a request or a reply delivered, as one change at a station.
 use Prim.Native.Nat.{ℕ, suc, _+_, _-_, _%_, _≤_, _<_}
-use mathlib.Core.Path.{_≡_, refl, sym, ap, subst, _∙_}
+use mathlib.Core.Path.{_≡_, refl, sym, ap, _∙_}
 use mathlib.Core.Logic.{_≢_, _⊎_, inl, inr}
 use mathlib.Core.Bool.{Bool, true, false, _&&_, _||_}
-use mathlib.Core.List.{List, [], _∷_, _++_, append-nil}
+use mathlib.Core.List.{List, _++_, append-nil}
 use lib.ListN.{length, getD, set, take, drop, length-set}
 use lib.Seq.{set-getD}
 use lib.Dec.{eqb, leb}
@@ -16,16 +16,15 @@ use Rattle.label.specs.declared.Label.{Label}
 use Rattle.model.specs.Memory as model
 use Rattle.model.specs.Memory.{place, airLimit}
 use Rattle.model.specs.Calls.{Solicit}
-use Rattle.model.specs.Events.{notEvent, eventOf}
+use Rattle.model.specs.Events.{eventOf}
 use Rattle.model.proofs.EventLaws.{event-kinds, call-3}
 use Rattle.network.specs.declared.RequestNumber.{RequestNumber}
 use Rattle.network.specs.declared.Packet.{Packet}
 use Rattle.network.specs.declared.Air.{Air}
 use Rattle.network.specs.declared.Memory.{Memory}
-use Rattle.network.specs.View.{zeroNumber, zeroRow, zeroRecord, zeroPacket, packetOf, packetsOf, labelOf, view}
+use Rattle.network.specs.View.{zeroNumber, zeroRow, zeroRecord, zeroPacket, packetsOf, labelOf, view}
 use Rattle.network.proofs.ViewLaws.{number-at}
 use Rattle.network.proofs.PacketLaws.{packets-count}
-use Rattle.network.proofs.Ranged.{Ranged}
 use Rattle.station.specs.declared.Holding.{Holding}
 use Rattle.station.specs.Reacting.{sentBy}
 use Rattle.station.specs.Replying.{Ready}
@@ -35,10 +34,11 @@ use Rattle.decisions.specs.Refusing.{Passes}
 use Rattle.decisions.specs.Changing.{classOf, Solicits, reaction, Reacts, Loses, Doubles}
 use Rattle.steps.specs.Happens.{happened, Happens}
 use Rattle.steps.specs.Parting.{droppedOf}
+use Rattle.steps.proofs.PacketMoves.{without-length}
 use Rattle.steps.proofs.RunLaws.{airing, Shape}
 use Rattle.steps.proofs.ArmLaws.{Tested, known, is-event, passes, both-below}
 use Rattle.steps.proofs.AirLaws.{solicit-7, solicit-happens, lose-there, lose-happens, duplicate-7, duplicate-happens}
-use Rattle.steps.proofs.DeliverLaws.{removed-length, arrives, carried, rest-length, inside, ready, reaction-7, reaction-happens}
+use Rattle.steps.proofs.DeliverLaws.{arrives, carried, ready, reaction-7, reaction-happens}
 
 -- The kinds of every other event.
 class-other : (kind carried : ℕ) → classOf kind carried ≢ 0 → classOf kind carried ≢ 1 → classOf kind carried ≢ 2 → 0 < kind → kind < 10
@@ -192,7 +192,7 @@ module _ (memory : Memory) (packets : List Packet) (count kind a b r : ℕ) (w :
     stays-length = go (c .drops) refl
       where
         go : (x : Bool) → c .drops ≡ x → length (if x then take (a % 128) (packetsOf packets count) ++ drop (suc (a % 128)) (packetsOf packets count) else packetsOf packets count) ≡ (if x then count - 1 else count)
-        go true d = removed-length packets count (a % 128) (goes d)
+        go true d = without-length packets count (a % 128) (goes d)
         go false d = packets-count packets count
 
     -- Solicit.
@@ -247,7 +247,7 @@ module _ (memory : Memory) (packets : List Packet) (count kind a b r : ℕ) (w :
           let s = at-receiver in
           let there = arrives memory packets count kind a b r (g .tested) (g .zero-is) e in
           reaction-7 memory packets count kind a b r (g .tested) (g .zero-is) e q cell slot l (rw (s .0, s .1) at (g .cell-is)) (rw (s .0, s .2) at (g .slot-is)) (g .label-is)
-          (reaction c) (rw (s .0) at (re .reacted)) (rw (re .drops-is, there .1, removed-length packets count a (there .0), s .0) at full)
+          (reaction c) (rw (s .0) at (re .reacted)) (rw (re .drops-is, there .1, without-length packets count a (there .0), s .0) at full)
 
       react-done : Done
       unfolding droppedOf
@@ -257,9 +257,9 @@ module _ (memory : Memory) (packets : List Packet) (count kind a b r : ℕ) (w :
           let there = arrives memory packets count kind a b r (g .tested) (g .zero-is) e in
           let law =
           reaction-happens memory packets count kind a b r (g .tested) (g .zero-is) e q cell slot l (rw (s .0, s .1) at (g .cell-is)) (rw (s .0, s .2) at (g .slot-is)) (g .label-is)
-          (reaction c) (rw (s .0) at (re .reacted)) packets′ (rw (re .drops-is, there .1, removed-length packets count a (there .0), s .0) at room)
-          (rw (re .drops-is, there .1, removed-length packets count a (there .0), s .0) at f) in
-          rw (e, re .number-is, re .sought-is, set-getD (memory .numbers) (w .station) zeroNumber, set-getD (memory .sought) (w .station) 0, re .drops-is, there .1, removed-length packets count a (there .0), s .0)
+          (reaction c) (rw (s .0) at (re .reacted)) packets′ (rw (re .drops-is, there .1, without-length packets count a (there .0), s .0) at room)
+          (rw (re .drops-is, there .1, without-length packets count a (there .0), s .0) at f) in
+          rw (e, re .number-is, re .sought-is, set-getD (memory .numbers) (w .station) zeroNumber, set-getD (memory .sought) (w .station) 0, re .drops-is, there .1, without-length packets count a (there .0), s .0)
           (rw e at law)
 
     -- Lose.
@@ -273,7 +273,7 @@ module _ (memory : Memory) (packets : List Packet) (count kind a b r : ℕ) (w :
           let zero-more : count - 1 + 0 ≡ count - 1 = omega arith in
           let law =
           lose-happens memory packets count kind a b r (g .tested) (g .zero-is) e packets′
-          (rw (lo .drops-is, lo .scope-is, removed-length packets count (a % 128) gone, zero-more) at f ∙ append-nil _) in
+          (rw (lo .drops-is, lo .scope-is, without-length packets count (a % 128) gone, zero-more) at f ∙ append-nil _) in
           rw (
             e,
             lo .holding-is,
@@ -282,7 +282,7 @@ module _ (memory : Memory) (packets : List Packet) (count kind a b r : ℕ) (w :
             lo .answer-is,
             lo .drops-is,
             lo .scope-is,
-            removed-length packets count (a % 128) gone,
+            without-length packets count (a % 128) gone,
             zero-more,
             g .label-is,
             set-getD (memory .s) cell 0,
@@ -301,7 +301,7 @@ module _ (memory : Memory) (packets : List Packet) (count kind a b r : ℕ) (w :
       lose-full full =
           let lo = loses e in
           let there = lose-there memory packets count kind a b r (g .tested) (g .zero-is) e in
-          let more : airLimit < count - 1 + 0 = rw (lo .drops-is, lo .scope-is, removed-length packets count (a % 128) (omega (arith, there))) at full in
+          let more : airLimit < count - 1 + 0 = rw (lo .drops-is, lo .scope-is, without-length packets count (a % 128) (omega (arith, there))) at full in
           absurd (omega (arith, more, known memory packets count kind a b r (g .tested) .air-count))
 
     -- Duplicate.

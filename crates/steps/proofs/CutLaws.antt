@@ -1,21 +1,21 @@
 -- Two stations taken out of each other's rows, one destination after the other.
-use Prim.Native.Nat.{ℕ, zero, suc, _+_, _^_, _≤_, _<_}
-use mathlib.Core.Path.{_≡_, refl, sym, ap, ap₂, subst, _∙_}
+use Prim.Native.Nat.{ℕ, _+_, _^_, _≤_, _<_}
+use mathlib.Core.Path.{_≡_, refl, sym, ap, _∙_}
 use mathlib.Core.Logic.{_≢_}
-use mathlib.Core.Bool.{Bool, true, false, not, _&&_, _||_, or-false}
-use mathlib.Core.List.{List, [], _∷_, map}
-use lib.ListN.{length, getD, set, length-map, length-set}
-use lib.Seq.{getD-set-other, set-getD, set-comm}
+use mathlib.Core.Bool.{Bool, true, false, not, _&&_, _||_}
+use mathlib.Core.List.{List, map}
+use lib.ListN.{getD, set}
+use lib.Seq.{getD-set-other}
 use native.Mathlib.Numerals.{add-one}
 use native.Mathlib.Omega.{arith}
 use Rattle.base.specs.Choice.{if_then_else_}
-use Rattle.base.specs.Lists.{allBelow, someBelow, someIn, keep}
-use Rattle.base.proofs.Booleans.{choose, neither}
-use Rattle.base.proofs.Lists.{map-set, all-below-at, none-in-at}
+use Rattle.base.specs.Lists.{someBelow, someIn}
+use Rattle.base.proofs.Booleans.{neither}
+use Rattle.base.proofs.Lists.{map-set}
 use Rattle.model.specs.Memory as model
 use Rattle.model.specs.Memory.{Successor, place, rowIn, names, without}
 use Rattle.model.specs.Calls.{bit, takeOut, removes, empties, emptied}
-use Rattle.model.proofs.Rows.{emptied-below, takeOut-other}
+use Rattle.model.proofs.Rows.{emptied-below, takeOut-other, takeOut-more, takeOut-none, set-takeOut}
 use Rattle.network.specs.declared.Row.{Row}
 use Rattle.network.specs.View.{zeroRow, rowOf}
 use Rattle.network.proofs.ViewLaws.{row-at}
@@ -25,65 +25,6 @@ use Rattle.decisions.specs.declared.cutting.Losses.{Losses}
 -- One row, masked or not.
 abbrev pub cutRow : Bool → (Successor → Bool) → model.Row → model.Row
 cutRow masked leaves r = if masked then without leaves r else r
-
--- Where no entry leaves a row, it is as it was.
-without-none : (leaves : Successor → Bool) (r : model.Row) → someIn leaves r ≡ false → without leaves r ≡ r
-unfolding without keep someIn
-without-none leaves [] h = refl
-without-none leaves (x ∷ r) h = let w = neither (leaves x) (someIn leaves r) h in rw (w .0, without-none leaves r (w .1))
-
-module _ (masked : ℕ → Bool) (leaves : Successor → Bool) (i : ℕ) (rows : List model.Row) where
-  -- The rows from destination c on are as they were.
-  takeOut-rest : (c t : ℕ) → c ≤ t → rowIn (takeOut masked leaves i c rows) i t ≡ rowIn rows i t
-  unfolding takeOut
-  takeOut-rest zero t h = refl
-  takeOut-rest (suc c) t h =
-      let before = takeOut-rest c t (omega arith) in
-      choose (λ z. rowIn z i t ≡ rowIn rows i t) (masked c)
-      (λ q. getD-set-other (takeOut masked leaves i c rows) (place i c) (place i t) _ [] (λ e. omega arith) ∙ before) (λ q. before)
-
-  -- One destination more.
-  pub takeOut-more : (c : ℕ) → takeOut masked leaves i (c + 1) rows ≡ set (takeOut masked leaves i c rows) (place i c) (cutRow (masked c) leaves (rowIn rows i c))
-  unfolding takeOut
-  takeOut-more c = rw add-one (go (masked c))
-    where
-      before : List model.Row
-      before = takeOut masked leaves i c rows
-
-      go : (x : Bool) → (if x then set before (place i c) (without leaves (rowIn rows i c)) else before) ≡ set before (place i c) (cutRow x leaves (rowIn rows i c))
-      go true = refl
-      go false = sym (ap (set before (place i c)) (sym (takeOut-rest c c (omega arith))) ∙ set-getD before (place i c) [])
-
-  -- Where nothing is removed they are all as they were.
-  pub takeOut-none : (c : ℕ) → removes masked leaves i c rows ≡ false → takeOut masked leaves i c rows ≡ rows
-  unfolding takeOut removes someBelow
-  takeOut-none zero h = refl
-  takeOut-none (suc c) h = let w = neither (removes masked leaves i c rows) (masked c && someIn leaves (rowIn rows i c)) h in go (masked c) (w .1) (takeOut-none c (w .0))
-    where
-      go : (x : Bool) → x && someIn leaves (rowIn rows i c) ≡ false → takeOut masked leaves i c rows ≡ rows
-          → (if x then set (takeOut masked leaves i c rows) (place i c) (without leaves (rowIn rows i c)) else takeOut masked leaves i c rows) ≡ rows
-      go true e same = rw (same, without-none leaves (rowIn rows i c) e) (set-getD rows (place i c) [])
-      go false e same = same
-
--- Another station's row that is written stays so.
-set-takeOut : (masked : ℕ → Bool) (leaves : Successor → Bool) (i j t : ℕ) (rows : List model.Row) (r : model.Row) → i ≢ j → t < 16 → (c : ℕ) → c ≤ 16
-    → takeOut masked leaves i c (set rows (place j t) r) ≡ set (takeOut masked leaves i c rows) (place j t) r
-unfolding takeOut
-set-takeOut masked leaves i j t rows r h ht zero hc = refl
-set-takeOut masked leaves i j t rows r h ht (suc c) hc =
-    rw (
-      set-takeOut masked leaves i j t rows r h ht c (omega arith),
-      getD-set-other rows (place j t) (place i c) r [] (λ e. h (omega arith)),
-    )
-    (go (masked c))
-  where
-    before : List model.Row
-    before = takeOut masked leaves i c rows
-
-    go : (x : Bool) → (if x then set (set before (place j t) r) (place i c) (without leaves (rowIn rows i c)) else set before (place j t) r)
-        ≡ set (if x then set before (place i c) (without leaves (rowIn rows i c)) else before) (place j t) r
-    go true = set-comm before (place j t) (place i c) r (without leaves (rowIn rows i c)) (λ e. h (omega arith))
-    go false = refl
 
 -- The masks of the rows emptied below t, and whether any row lost an entry.
 pub record Lost (cut : Cut) (rows : List model.Row) (t : ℕ) (losses : Losses) : Type 0 where

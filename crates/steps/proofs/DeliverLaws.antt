@@ -1,10 +1,10 @@
 -- A request or a reply delivered, as a turn of the run makes it.
 use Prim.Native.Nat.{ℕ, suc, _+_, _-_, _%_, _≤_, _<_}
-use mathlib.Core.Path.{_≡_, refl, sym, ap, subst, _∙_}
+use mathlib.Core.Path.{_≡_, refl, sym, ap, _∙_}
 use mathlib.Core.Logic.{_≢_}
 use mathlib.Core.Bool.{false}
 use mathlib.Core.List.{List, _++_}
-use lib.ListN.{length, getD, set, take, drop, length-append, length-take, length-drop}
+use lib.ListN.{length, getD, set, take, drop}
 use native.Mathlib.Omega.{arith}
 use Rattle.base.specs.Results.{refused, accepted}
 use Rattle.base.proofs.Lists.{map-set}
@@ -19,7 +19,7 @@ use Rattle.network.specs.declared.Packet.{Packet}
 use Rattle.network.specs.declared.Memory.{Memory}
 use Rattle.network.specs.View.{zeroNumber, zeroRow, zeroRecord, zeroPacket, rowOf, recordOf, bodyOf, packetOf, packetsOf, labelOf, view}
 use Rattle.network.proofs.ViewLaws.{row-at, record-at, number-at, label-at, labels-set}
-use Rattle.network.proofs.PacketLaws.{packets-count, packets-at}
+use Rattle.network.proofs.PacketLaws.{packets-at}
 use Rattle.network.proofs.Ranged.{Carried, Ranged}
 use Rattle.station.specs.declared.Holding.{Holding}
 use Rattle.station.specs.declared.Reaction.{Reaction}
@@ -27,15 +27,10 @@ use Rattle.station.specs.Reacting.{sentBy, Holds, holding, reacts}
 use Rattle.station.specs.Replying.{LastRequest, Ready}
 use Rattle.decisions.specs.Refusing.{Passes}
 use Rattle.steps.specs.Happens.{happened, Happens}
+use Rattle.steps.proofs.PacketMoves.{without-length}
 use Rattle.steps.proofs.RunLaws.{airing, shape-sized}
 use Rattle.steps.proofs.ArmLaws.{Tested, known, passes, happens-accepted, happens-7}
 use Rattle.steps.proofs.AirLaws.{packet-there}
-
--- One packet goes.
-pub removed-length : (packets : List Packet) (count k : ℕ) → k < count → length (take k (packetsOf packets count) ++ drop (suc k) (packetsOf packets count)) ≡ count - 1
-removed-length packets count k there =
-    length-append (take k (packetsOf packets count)) _
-    ∙ rw (length-take k (packetsOf packets count), length-drop (suc k) (packetsOf packets count), packets-count packets count) (omega (arith, there))
 
 module _ (memory : Memory) (packets : List Packet) (count kind a b r : ℕ) (h : Tested memory packets count kind a b r) (zero : r ≡ 0) (e : kind ≡ 6) where
   abbrev m : Memory
@@ -62,7 +57,7 @@ module _ (memory : Memory) (packets : List Packet) (count kind a b r : ℕ) (h :
   rest = take a (packetsOf packets count) ++ drop (suc a) (packetsOf packets count)
 
   pub rest-length : length rest ≡ count - 1
-  rest-length = removed-length packets count a (arrives .0)
+  rest-length = without-length packets count a (arrives .0)
 
   abbrev flying : model.Network
   flying = setAir rest (view m)

@@ -1,25 +1,22 @@
 -- Down, and an error delivered, as a turn of the run makes them.
-use Prim.Native.Nat.{ℕ, zero, suc, _+_, _-_, _%_, _/_, _^_, _≤_, _<_}
-use mathlib.Core.Path.{_≡_, refl, sym, ap, ap₂, subst, _∙_}
+use Prim.Native.Nat.{ℕ, zero, _+_, _-_, _%_, _≤_, _<_}
+use mathlib.Core.Path.{_≡_, sym, ap, _∙_}
 use mathlib.Core.Logic.{_≢_, _⊎_, inl, inr}
-use mathlib.Core.Bool.{Bool, true, false, not, _&&_, _||_, or-false, and-false, and-true}
-use mathlib.Core.List.{List, [], _∷_, _++_, map, append-nil, append-assoc}
+use mathlib.Core.Bool.{Bool, false, not, _&&_, or-false, and-false, and-true}
+use mathlib.Core.List.{List, [], _++_, map, append-nil, append-assoc}
 use lib.ListN.{length, getD, set, length-append, length-map}
 use lib.Seq.{set-getD}
 use lib.Dec.{eqb}
-use native.Mathlib.Nat.{zero-div}
 use native.Mathlib.Omega.{arith}
 use Rattle.base.specs.Choice.{if_then_else_}
-use Rattle.base.specs.Lists.{keep, someBelow}
-use Rattle.base.specs.Results.{refused, accepted}
 use Rattle.model.specs.Memory as model
 use Rattle.model.specs.Memory.{Network, error, pairPlace, names, setRows, setLinks, setAir, airLimit}
-use Rattle.model.specs.Calls.{Down, Deliver, Effect, effect, limited, send, sending, errors, receive, onError, errorOutcome, step}
-use Rattle.model.specs.Calls.{takeOut, removes, emptied, between, everyDestination, lost, parted, down, bit}
+use Rattle.model.specs.Calls.{Down, Deliver, effect, limited, send, sending, errors, receive, onError, errorOutcome, step}
+use Rattle.model.specs.Calls.{takeOut, removes, emptied, everyDestination, lost, parted, down, bit}
 use Rattle.model.specs.Events.{calls, eventOf}
 use Rattle.model.proofs.Refusals.{pair-tells, down-limited, sending-7, sending-accepted}
 use Rattle.model.proofs.EventLaws.{call-2}
-use Rattle.model.proofs.Rows.{takeOut-length, takeOut-full, emptied-full}
+use Rattle.model.proofs.Rows.{takeOut-length, takeOut-full, emptied-full, takeOut-never, emptied-never, removes-never}
 use Rattle.network.specs.declared.Row.{Row}
 use Rattle.network.specs.declared.Packet.{Packet}
 use Rattle.network.specs.declared.Air.{Air}
@@ -34,30 +31,9 @@ use Rattle.decisions.specs.Refusing.{Passes}
 use Rattle.steps.specs.Happens.{happened, Happens}
 use Rattle.steps.specs.Parting.{restOf}
 use Rattle.steps.proofs.RunLaws.{airing, Shape}
-use Rattle.steps.proofs.ArmLaws.{Tested, known, passes, happens-accepted, happens-7, both-below}
+use Rattle.steps.proofs.ArmLaws.{Tested, known, passes, happens-accepted, happens-7}
 use Rattle.steps.proofs.DeliverLaws.{arrives, carried, rest, delivered, deliver-7, deliver-accepted}
 use Rattle.steps.proofs.CutLaws.{Lost}
-
--- Where no destination is masked nothing is taken out.
-never : (t : ℕ) → bit 0 t ≡ false
-unfolding bit
-never t = rw (zero-div (2 ^ t))
-
-module _ (leaves : model.Successor → Bool) (i : ℕ) (rows : List model.Row) where
-  takeOut-never : (c : ℕ) → takeOut (bit 0) leaves i c rows ≡ rows
-  unfolding takeOut
-  takeOut-never zero = refl
-  takeOut-never (suc c) = rw (never c) (takeOut-never c)
-
-  emptied-never : (c : ℕ) → emptied (bit 0) leaves i c rows ≡ 0
-  unfolding emptied
-  emptied-never zero = refl
-  emptied-never (suc c) = rw (never c, emptied-never c)
-
-  removes-never : (c : ℕ) → removes (bit 0) leaves i c rows ≡ false
-  unfolding removes someBelow
-  removes-never zero = refl
-  removes-never (suc c) = rw (never c, removes-never c)
 
 -- Whose rows are cut: two stations.
 pub cut-below : (memory : Memory) (packets : List Packet) (count kind a b r : ℕ) → Tested memory packets count kind a b r → r ≡ 0 → (cut : Cut)

@@ -1,7 +1,7 @@
 -- A run of events, turn by turn.
-use Prim.Native.Nat.{ℕ, zero, suc, _+_, _*_, _≤_, _<_}
+use Prim.Native.Nat.{ℕ, zero, suc, _+_, _*_}
 use mathlib.Core.Path.{_≡_, refl, sym, ap, subst, _∙_}
-use mathlib.Core.Bool.{Bool, true}
+use mathlib.Core.Bool.{true}
 use mathlib.Core.List.{List, [], _∷_, _++_}
 use lib.ListN.{length, getD, set, length-map}
 use lib.Seq.{sets, length-sets}
@@ -10,7 +10,7 @@ use Rattle.base.specs.Lists.{tabulate}
 use Rattle.base.proofs.Booleans.{Trichotomy, less, equal, more, trichotomy}
 use Rattle.base.proofs.Loops.{tabulate-length, tabulate-more}
 use Rattle.codec.proofs.ByteLaws.{sets-next}
-use Rattle.model.specs.Memory.{Network, memoryInRange, airLimit}
+use Rattle.model.specs.Memory.{memoryInRange, airLimit}
 use Rattle.model.specs.Calls.{run}
 use Rattle.model.specs.Events.{eventOf, eventAt, callsIn, afterEvents}
 use Rattle.model.specs.Printout.{Line, line, lineAt}

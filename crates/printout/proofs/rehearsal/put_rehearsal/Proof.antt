@@ -1,128 +1,85 @@
--- `rehearsal::put_rehearsal` meets its contract: the lines of the first i events are put, and the memory is the one after them.
-use Prim.Native.Nat.{_-_, _*_, _≤_}
+-- `rehearsal::put_rehearsal` meets its contract: the lines of the events are put, and after them the labels of the memory that the run left.
+use mathlib.Core.Path.{_≡_, sym, ap, _∙_}
+use mathlib.Core.Bool.{true}
 use mathlib.Core.List.{flatMap}
-use mathlib.Core.Path.{_≡_, sym, subst}
-use lib.ListN.{length}
 use native.Mathlib.Omega.{arith}
 use borrow.Author.Needs.{needs}
-use Rattle.base.specs.Lists.{tabulate}
-use Rattle.model.specs.Events.{eventAt, eventLimit}
+use Rattle.model.specs.Memory.{memoryInRange}
+use Rattle.model.specs.Printout.{eventLines}
 use Rattle.model.proofs.Refusals.{opening-tells}
 use Rattle.network.specs.View.{view}
-use Rattle.sandbox.proofs.RunLaws.{Ran, ran-none, ran-more}
+use Rattle.steps.proofs.RunLaws.{ran-in-range}
+use Rattle.printout.specs.Text.{eventText}
 use Rattle.printout.specs.Contracts.{PutsAt}
-use Rattle.printout.proofs.TextLaws.{puts-none, puts-append, puts-length}
-use Rattle.printout.proofs.RehearsalLaws.{textFirst, text-more, text-whole}
+use Rattle.printout.proofs.TextLaws.{puts-append, puts-length}
+use Rattle.printout.proofs.RehearsalLaws.{told-array, fresh-in-range, text-whole}
 use Rattle.printout.proofs.rehearsal.put_rehearsal.Statement.{statement}
 use Rattle.printout.proofs.rehearsal.put_rehearsal.Tie as tie
 
-abbrev Inv-loop : tie.InvT-loop
-Inv-loop out₀ n start kinds operands memory₀ end₀ i₀ out memory end i =
-    (i ≤ length kinds) × Ran n start kinds operands i memory × PutsAt out₀ 0 (textFirst n start kinds operands i) end out × (end ≤ 40 * i)
+-- The run starts in range.
+ranged : (c : tie.After-fresh) → memoryInRange (view (c .fresh .result)) ≡ true
+ranged c =
+    let start = c .before .before .before .before in
+    ap memoryInRange (c .fresh .ensures) ∙ fresh-in-range (start .args .n) (start .args .start) (start .pre .0 .0)
 
-abbrev μ-loop : tie.MeasureT-loop
-μ-loop out₀ n start kinds operands memory₀ end₀ i₀ out memory end i = length kinds - i
+fresh-requires : tie.Need-fresh-requires
+fresh-requires c κs =
+    let start = c .before .before .before in
+    opening-tells (start .args .n) (start .args .start) (start .pre .0 .0) .1
 
--- A turn's place, and what the caller gave.
-abbrev first : tie.At-loop Inv-loop μ-loop → tie.Start Inv-loop μ-loop
-first c = c .before .before .before .before .before
+slice-aggregate-run : tie.Need-slice-aggregate-run
+slice-aggregate-run c = search needs
 
-counted : (c : tie.At-loop Inv-loop μ-loop) → let args = first c .args in
-    (length (args .kinds .now) ≤ eventLimit) × (length (args .operands .now) ≡ 2 * length (args .kinds .now)) × (184_320 ≤ length (args .out .now))
-counted c = (first c .pre .0 .1, first c .pre .0 .2, first c .pre .1)
+run-requires : tie.Need-run-requires
+run-requires c κs =
+    let start = c .before .before .before .before .before in
+    (ranged (c .before), (start .pre .0 .1, start .pre .0 .2, search needs))
 
-fresh-requires : tie.Need-fresh-requires Inv-loop μ-loop
-fresh-requires c κs = opening-tells (c .before .before .before .args .n) (c .before .before .before .args .start) (c .before .before .before .pre .0 .0) .1
+slice-aggregate-put-event-lines : tie.Need-slice-aggregate-put-event-lines
+slice-aggregate-put-event-lines c = search needs
 
-loop-holds : tie.Need-loop-holds Inv-loop μ-loop
-unfolding textFirst tabulate flatMap
-loop-holds c = (omega arith, ran-none _ _ _ _ _ (c .before .before .before .before .pre .0 .0) (c .fresh .ensures), puts-none _ _, omega arith)
+put-event-lines-requires : tie.Need-put-event-lines-requires
+put-event-lines-requires c κs = search needs
 
-shared-slice-read-kind : tie.Need-shared-slice-read-kind Inv-loop μ-loop
-shared-slice-read-kind c = search needs
+-- The lines of the events.
+put : (c : tie.After-put-event-lines) → let run = c .before .before .before .before in let args = run .before .before .before .before .before .before .args in
+    PutsAt (args .out .now) 0 (flatMap eventText (eventLines (view (run .before .before .fresh .result)) (args .kinds .now) (args .operands .now))) (c .put-event-lines .result) (c .put-event-lines .last .0)
+put c =
+    let run = c .before .before .before .before in
+    let args = run .before .before .before .before .before .before .args in
+    let memory = run .before .before .fresh .result in
+    c .put-event-lines .ensures .0 (view memory)
+    (told-array (view memory) (args .kinds .now) (args .operands .now) _ _ (omega arith) (run .run .ensures .1 .0) (run .run .ensures .1 .1))
 
-mul-a : tie.Need-mul-a Inv-loop μ-loop
-mul-a c = record { fits = omega (arith, counted (c .before .before)) }
-
-shared-slice-read-a : tie.Need-shared-slice-read-a Inv-loop μ-loop
-shared-slice-read-a c = omega (arith, counted (c .before .before .before))
-
-mul-b : tie.Need-mul-b Inv-loop μ-loop
-mul-b c = record { fits = omega (arith, counted (c .before .before .before)) }
-
-add-b : tie.Need-add-b Inv-loop μ-loop
-add-b c = record { fits = omega (arith, counted (c .before .before .before)) }
-
-shared-slice-read-b : tie.Need-shared-slice-read-b Inv-loop μ-loop
-shared-slice-read-b c = omega (arith, counted (c .before .before .before .before))
-
-event-requires : tie.Need-event-requires Inv-loop μ-loop
-event-requires c κs = search needs
-
-put-event-line-requires : tie.Need-put-event-line-requires Inv-loop μ-loop
-put-event-line-requires c κs =
-    let loop = c .before .before .before .before .before .before .before .before in
-    let w = counted loop in
-    (omega (arith, puts-length (loop .loop .inv .2)), omega arith)
-
-add-i : tie.Need-add-i Inv-loop μ-loop
-add-i c = record { fits = omega (arith, counted (c .before .before .before .before .before .before .before .before .before .before .before)) }
-
-loop-less : tie.Need-loop-less Inv-loop μ-loop
-loop-less c = omega arith
-
-loop-again : tie.Need-loop-again Inv-loop μ-loop
-unfolding eventAt
-loop-again c =
-    let at = c .before .before .before .before .before .before .before .before .before .before .before in
-    let args = first at .args in
-    let ran = at .loop .inv .1 in
-    let happened = c .before .before .before .before .before .before .event in (
-      omega (arith, c .before .before .before .before .before .before .before .before .before .before .loop-test .taken),
-      ran-more _ _ _ _ _ _ _ ran (happened .ensures),
-      rw (text-more (args .n) (args .start) (args .kinds .now) (args .operands .now) (at .loop .i) (at .loop .memory) ran (happened .result) (happened .ensures))
-          (puts-append (at .loop .inv .2) (c .before .before .put-event-line .ensures .0)),
-      omega arith,
-    )
-
-put-label-lines-requires : tie.Need-put-label-lines-requires Inv-loop μ-loop
+put-label-lines-requires : tie.Need-put-label-lines-requires
 put-label-lines-requires c κs =
-    let at = c .before .before in
-    (at .loop .inv .1 .ranged, omega (arith, counted at, puts-length (at .loop .inv .2)))
+    let run = c .before .before .before .before .before .before .before in
+    let fresh = run .before .before in
+    (ran-in-range (fresh .fresh .result) _ _ _ _ (run .run .ensures .0) (ranged fresh), omega (arith, puts-length (put (c .before .before .before))))
 
-returns : tie.Need-returns Inv-loop μ-loop
+returns : tie.Need-returns
 unfolding view
 returns c =
-    let at = c .before .before .before .before .before in
-    let args = first at .args in
-    let e : at .loop .i ≡ length (args .kinds .now) = omega arith in
-    let ran = subst (λ i. Ran (args .n) (args .start) (args .kinds .now) (args .operands .now) i (at .loop .memory)) e (at .loop .inv .1) in
-    let put = subst (λ i. PutsAt (args .out .now) 0 (textFirst (args .n) (args .start) (args .kinds .now) (args .operands .now) i) (at .loop .end) (at .loop .out)) e (at .loop .inv .2) in
-    let whole = text-whole (args .n) (args .start) (args .kinds .now) (args .operands .now) (at .loop .memory) ran in
-    (rw (sym whole) (puts-append put (c .before .before .put-label-lines .ensures .0)), omega (arith, counted at))
+    let lines = c .before .before .before .before .before .before in
+    let run = lines .before .before .before .before in
+    let fresh = run .before .before in
+    let start = fresh .before .before .before .before in
+    let args = start .args in
+    let whole = text-whole (args .n) (args .start) (args .kinds .now) (args .operands .now) (fresh .fresh .result) (run .run .result) (fresh .fresh .ensures) (run .run .ensures .0) in
+    (rw (sym whole) (puts-append (put lines) (c .before .before .put-label-lines .ensures .0)), omega (arith, start .pre .0 .1))
 
-same-length : tie.Need-same-length Inv-loop μ-loop
+same-length : tie.Need-same-length
 same-length c = puts-length (returns c .0)
 
 pub put-rehearsal-spec : {M : Type 1} → statement M
 put-rehearsal-spec =
     tie.close
     (tie.spec
-    Inv-loop
-    μ-loop
     fresh-requires
-    loop-holds
-    shared-slice-read-kind
-    mul-a
-    shared-slice-read-a
-    mul-b
-    add-b
-    shared-slice-read-b
-    event-requires
-    put-event-line-requires
-    add-i
-    loop-less
-    loop-again
+    slice-aggregate-run
+    run-requires
+    slice-aggregate-put-event-lines
+    put-event-lines-requires
     put-label-lines-requires
     same-length
     returns)

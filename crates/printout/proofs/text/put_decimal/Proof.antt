@@ -1,53 +1,59 @@
--- `text::put_decimal` meets its contract: what `io::decimal` spells is the number's decimal text, of at most 20 digits.
-use Prim.Native.Nat.{_≤_}
-use mathlib.Core.Path.{_≡_, ap, _∙_}
-use lib.ListN.{length, take}
+-- `text::put_decimal` meets its contract: at most two digits, at most four, or any number.
 use native.Mathlib.Omega.{arith}
 use borrow.Author.Needs.{needs}
-use Rattle.printout.specs.Text.{decimal}
-use Rattle.printout.proofs.TextLaws.{fewest-within, digits-decimal}
+use Rattle.printout.proofs.TextLaws.{decimal-four, puts-append}
 use Rattle.printout.proofs.text.put_decimal.Statement.{statement}
 use Rattle.printout.proofs.text.put_decimal.Tie as tie
 
--- At most 20 digits are spelt, and they are the decimal text.
-few : (c : tie.After-decimal) → c .decimal .result ≤ 20
-few c = fewest-within _ _ 20 (c .decimal .ensures .1 .0) (omega arith) (omega arith)
-
-spelt : (c : tie.After-decimal) → take (c .decimal .result) (c .decimal .last .1 .0) ≡ decimal (c .before .before .before .args .value)
-spelt c = c .decimal .ensures .1 .1 ∙ digits-decimal _ _ (c .decimal .ensures .1 .0) (few c)
-
-decimal-requires : tie.Need-decimal-requires
-decimal-requires c κs = search needs
-
-array-share-prefix-digits : tie.Need-array-share-prefix-digits
-array-share-prefix-digits c = search needs
-
-slice-aggregate-put-bytes : tie.Need-slice-aggregate-put-bytes
-slice-aggregate-put-bytes c = search needs
-
-put-bytes-requires : tie.Need-put-bytes-requires
-put-bytes-requires c κs = omega (arith, few (c .before .before))
-
-add-result : tie.Need-add-result
-add-result c = omega (arith, few (c .before .before .before .before .before))
+put-two-requires : tie.Need-put-two-requires
+put-two-requires c κs = search needs
 
 same-length : tie.Need-same-length
 same-length c = search needs
 
 returns : tie.Need-returns
-returns c =
-    let here = c .before .before .before .before .before in
-    let text = spelt here in
-    (record { stands = c .before .before .put-bytes .ensures ∙ rw text; ends = omega (arith, ap length text) }, omega (arith, few here))
+returns c = (c .before .before .put-two .ensures .0, omega arith)
+
+put-two-requires-2 : tie.Need-put-two-requires-2
+put-two-requires-2 c κs = search needs
+
+put-digit-requires : tie.Need-put-digit-requires
+put-digit-requires c κs = search needs
+
+put-digit-requires-2 : tie.Need-put-digit-requires-2
+put-digit-requires-2 c κs = search needs
+
+same-length-2 : tie.Need-same-length-2
+same-length-2 c = search needs
+
+returns-2 : tie.Need-returns-2
+returns-2 c =
+    let first = c .before .before .before .before .before .before .before .before .before .before in
+    let value = first .before .before .before .before .before .args .value in
+    let tens = puts-append (first .put-two2 .ensures .0) (c .before .before .before .before .before .before .put-digit .ensures) in
+    (rw (decimal-four value (omega arith) (omega arith)) (puts-append tens (c .before .before .put-digit2 .ensures)), omega arith)
+
+put-many-requires : tie.Need-put-many-requires
+put-many-requires c κs = search needs
+
+same-length-3 : tie.Need-same-length-3
+same-length-3 c = search needs
+
+returns-3 : tie.Need-returns-3
+returns-3 c = c .before .before .put-many .ensures
 
 pub put-decimal-spec : {M : Type 1} → statement M
 put-decimal-spec =
     tie.close
     (tie.spec
-    decimal-requires
-    array-share-prefix-digits
-    slice-aggregate-put-bytes
-    put-bytes-requires
-    add-result
+    put-two-requires
     same-length
-    returns)
+    returns
+    put-two-requires-2
+    put-digit-requires
+    put-digit-requires-2
+    same-length-2
+    returns-2
+    put-many-requires
+    same-length-3
+    returns-3)
