@@ -1,6 +1,7 @@
 -- A run of events, as the code makes it.
 use Prim.Native.Nat.{ℕ, _≤_, _<_}
 use mathlib.Core.Path.{_≡_, refl, sym, ap, subst, _∙_}
+use mathlib.Core.Logic.{_≢_}
 use mathlib.Core.Bool.{true, false, not}
 use mathlib.Core.List.{List, _++_}
 use lib.ListN.{length}
@@ -25,7 +26,7 @@ use Rattle.network.specs.View.{view}
 use Rattle.steps.specs.declared.Done.{Done}
 use Rattle.steps.specs.Called.{done, Called}
 use Rattle.steps.specs.Ran as steps
-use Rattle.steps.specs.Ran.{Ran}
+use Rattle.steps.specs.Ran.{Ran, ToldFit}
 use Rattle.steps.proofs.CallLaws.{called-refused}
 use Rattle.steps.proofs.RunLaws.{ran-in-range, ran-after}
 use Rattle.sandbox.specs.Made.{MadeMemory, WalksEndIn}
@@ -51,14 +52,14 @@ module _ (memory : Memory) (kinds operands lines : List ℕ) where
   abbrev pub Runs : Done → List ℕ → Type 0
   Runs r lines′ =
       Called memory (running (view memory) kinds operands (length lines)) r
-      × (Tells (view memory) kinds operands lines lines′ × ((MadeMemory memory → Ends (r .memory)) × (Reached (view memory) → Ends (r .memory))))
+      × (Tells (view memory) kinds operands lines lines′ × ((MadeMemory memory → Ends (r .memory)) × ((Reached (view memory) → Ends (r .memory)) × (r .answer ≡ 0 → ToldFit (view memory) kinds operands (length kinds)))))
 
-  ends : (next : Memory) → (Reached (view memory) → Reached (view next)) → (MadeMemory memory → Ends next) × (Reached (view memory) → Ends next)
-  ends next f = (λ m a t. reached-ends next a t _ refl (f (made-memory-reached memory m)), λ r a t. reached-ends next a t _ refl (f r))
+  ends : {F : Type 0} (next : Memory) → (Reached (view memory) → Reached (view next)) → F → (MadeMemory memory → Ends next) × ((Reached (view memory) → Ends next) × F)
+  ends next f fit = (λ m a t. reached-ends next a t _ refl (f (made-memory-reached memory m)), (λ r a t. reached-ends next a t _ refl (f r), fit))
 
-  pub run-refused : (number : ℕ) → running (view memory) kinds operands (length lines) ≡ refused number → Runs (done memory number 0) lines
+  pub run-refused : (number : ℕ) → number ≢ 0 → running (view memory) kinds operands (length lines) ≡ refused number → Runs (done memory number 0) lines
   unfolding Tells mapped putInto
-  run-refused number e = (called-refused memory _ number e, (rw e, ends memory (λ r. r)))
+  run-refused number some e = (called-refused memory _ number e, (rw e, ends memory (λ r. r) (λ z. absurd (some z))))
 
   -- Past the first three tests.
   module _ (listed : notEvents (length kinds) (length operands) ≡ false) (ranged : memoryInRange (view memory) ≡ true) (right : allEvents kinds operands ≡ true) where
@@ -68,7 +69,7 @@ module _ (memory : Memory) (kinds operands lines : List ℕ) where
     tested = refuse-passes 10 _ _ listed ∙ refuse-passes 1 _ _ (ap not ranged) ∙ refuse-passes 11 _ _ (ap not right)
 
     pub run-no-room : length lines < length kinds → Runs (done memory 12 0) lines
-    run-no-room h = run-refused 12 (tested ∙ refuse-holds 12 _ _ (lt-ltb (length lines) (length kinds) h))
+    run-no-room h = run-refused 12 (λ z. omega arith) (tested ∙ refuse-holds 12 _ _ (lt-ltb (length lines) (length kinds) h))
 
     module _ (next : Memory) (lines′ : List ℕ) (ran : Ran memory kinds operands (length kinds) next) where
       left : view next ≡ afterEvents (view memory) kinds operands (length kinds)
@@ -78,16 +79,16 @@ module _ (memory : Memory) (kinds operands lines : List ℕ) where
       unfolding afterEvents
       reached r = subst Reached (sym left) (reached-more (view memory) (callsIn (tabulate (length kinds) (eventAt kinds operands))) r)
 
-      pub run-accepted : length kinds ≤ length lines → lines′ ≡ sets lines 0 (tabulate (length kinds) (steps.told (view memory) kinds operands))
+      pub run-accepted : length kinds ≤ length lines → lines′ ≡ sets lines 0 (tabulate (length kinds) (steps.told (view memory) kinds operands)) → ToldFit (view memory) kinds operands (length kinds)
           → Runs (done next 0 0) lines′
       unfolding Called Tells mapped putInto eventLines steps.told
-      run-accepted h told-are =
+      run-accepted h told-are fit =
           let e = tested ∙ refuse-passes 12 _ _ (le-ltb (length lines) (length kinds) h) in (
             subst (λ z. Called memory z (done next 0 0)) (sym e)
                 (ap (λ (net : Network). effect 0 0 net) left, ran-in-range memory kinds operands (length kinds) next ran ranged),
             (
               rw (e, map-tabulate told (length kinds) (lineAt (view memory) kinds operands))
                   (told-are ∙ sets-over lines _ (omega (arith, tabulate-length (length kinds) (steps.told (view memory) kinds operands)))),
-              ends next reached,
+              ends next reached (λ z. fit),
             ),
           )

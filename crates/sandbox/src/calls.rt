@@ -9,11 +9,12 @@ ghost use Rattle.model.specs.Walks.{Reached};
 ghost use Rattle.network.specs.View.{view};
 ghost use Rattle.steps.specs.Called.{Called};
 ghost use Rattle.sandbox.specs.Made.{MadeMemory, WalksEndIn};
-use crate::events::event;
 use network::Memory;
 use network::opening::fresh;
+use network::range::in_range;
 use steps::Done;
 use steps::Traced;
+use steps::single::event_in_range;
 use validation::open_refused;
 
 // A station or a place in the air that fits a byte: no network in range has a 255th.
@@ -30,7 +31,14 @@ fn narrow(a: usize) -> u8
 fn call(memory: Memory, kind: u8, a: usize, b: usize) -> Done
     ensures { λ r. ⌜ (kind ≢ 9 → notEvent kind b ≡ false → Called memory (step (callOf kind a b) (view memory)) r) ⌝ }
 {
-    let happened = event(memory, kind, narrow(a), narrow(b));
+    if !in_range(memory) {
+        return Done {
+            memory: memory,
+            answer: 1,
+            sent: 0,
+        };
+    }
+    let happened = event_in_range(memory, kind, narrow(a), narrow(b));
     let next = happened.memory;
     Done {
         memory: next,
@@ -119,7 +127,10 @@ pub fn trace(memory: Memory, a: usize, t: usize) -> Traced
     ensures loop_free { λ r. ⌜ (MadeMemory memory → WalksEndIn memory a t (traced (r .answer) (r .hops))) ⌝ }
     ensures reached { λ r. ⌜ (Reached (view memory) → WalksEndIn memory a t (traced (r .answer) (r .hops))) ⌝ }
 {
-    let happened = event(memory, 9, narrow(a), narrow(t));
+    if !in_range(memory) {
+        return Traced { answer: 1, hops: 0 };
+    }
+    let happened = event_in_range(memory, 9, narrow(a), narrow(t));
     Traced {
         answer: happened.answer,
         hops: happened.hops,

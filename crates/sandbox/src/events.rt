@@ -8,6 +8,7 @@ ghost use Rattle.model.specs.Walks.{Reached};
 ghost use Rattle.network.specs.View.{view};
 ghost use Rattle.steps.specs.Called.{Called};
 ghost use Rattle.steps.specs.Happens.{Happens};
+ghost use Rattle.steps.specs.Ran.{ToldFit};
 ghost use Rattle.sandbox.specs.Made.{MadeMemory, WalksEndIn};
 ghost use Rattle.sandbox.specs.Telling.{Tells};
 use network::Memory;
@@ -41,6 +42,7 @@ pub fn run(memory: Memory, kinds: &[u8], operands: &[u8], lines: &mut [u64]) -> 
     ensures told { λ _. ⌜ Tells (view memory) (now (kinds .entry)) (now (operands .entry)) (now (lines .entry)) (now (lines .exit)) ⌝ }
     ensures loop_free { λ r. ⌜ (MadeMemory memory → (a t : ℕ) → WalksEndIn (r .memory) a t (trace (view (r .memory)) a t)) ⌝ }
     ensures reached { λ r. ⌜ (Reached (view memory) → (a t : ℕ) → WalksEndIn (r .memory) a t (trace (view (r .memory)) a t)) ⌝ }
+    ensures fits { λ r. ⌜ (r .answer ≡ 0 → ToldFit (view memory) (now (kinds .entry)) (now (operands .entry)) (length (now (kinds .entry)))) ⌝ }
 {
     if not_events(kinds.len(), operands.len()) {
         return Done {

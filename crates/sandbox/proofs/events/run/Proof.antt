@@ -32,7 +32,7 @@ not-events-requires c κs = search needs
 
 returns : tie.Need-returns
 unfolding running
-returns c = run-refused _ _ _ _ 10 (refuse-holds 10 _ _ (sym (c .before .not-events .ensures) ∙ c .if1 .taken))
+returns c = run-refused _ _ _ _ 10 (λ z. omega arith) (refuse-holds 10 _ _ (sym (c .before .not-events .ensures) ∙ c .if1 .taken))
 
 in-range-requires : tie.Need-in-range-requires
 in-range-requires c κs = search needs
@@ -40,7 +40,7 @@ in-range-requires c κs = search needs
 returns-2 : tie.Need-returns-2
 unfolding running
 returns-2 c =
-    run-refused _ _ _ _ 1 (refuse-passes 10 _ _ (listed (c .before .before))
+    run-refused _ _ _ _ 1 (λ z. omega arith) (refuse-passes 10 _ _ (listed (c .before .before))
     ∙ refuse-holds 1 _ _ (ap not (not-was-false _ _ (c .before .in-range .ensures) (c .if2 .taken))))
 
 all-events-requires : tie.Need-all-events-requires
@@ -50,7 +50,7 @@ returns-3 : tie.Need-returns-3
 unfolding running
 returns-3 c =
     let past = c .before .before in
-    run-refused _ _ _ _ 11 (refuse-passes 10 _ _ (listed (past .before .before)) ∙ refuse-passes 1 _ _ (ap not (ranged past))
+    run-refused _ _ _ _ 11 (λ z. omega arith) (refuse-passes 10 _ _ (listed (past .before .before)) ∙ refuse-passes 1 _ _ (ap not (ranged past))
     ∙ refuse-holds 11 _ _ (ap not (not-was-false _ _ (c .before .all-events .ensures) (c .if3 .taken))))
 
 returns-4 : tie.Need-returns-4
@@ -72,7 +72,7 @@ returns-5 c =
     let end = c .before .before .before .before .before in
     let past = end .before .before in
     let ran = c .before .before .run .ensures in
-    run-accepted _ _ _ _ (listed (past .before .before)) (ranged past) (right end) _ _ (ran .0) (omega arith) (ran .1 .1)
+    run-accepted _ _ _ _ (listed (past .before .before)) (ranged past) (right end) _ _ (ran .0) (omega arith) (ran .1 .1) (ran .1 .0)
 
 pub run-spec : {M : Type 1} → statement M
 run-spec =
