@@ -1,9 +1,9 @@
 // What a call changes at one station: Up, Give up and Expire; Solicit, Lose, Duplicate, and the delivery of a request or a reply.
 ghost use mathlib.Core.Path.{_≡_};
 ghost use mathlib.Core.Logic.{_≢_};
-ghost use mathlib.Core.Bool.{true, false, not, _&&_, _||_};
+ghost use mathlib.Core.Bool.{true, false};
 ghost use Prim.Native.Nat.{_+_, _%_, _<_};
-ghost use lib.Dec.{ltb, leb, eqb};
+ghost use lib.Dec.{eqb};
 ghost use Rattle.base.specs.Choice.{if_then_else_};
 ghost use Rattle.base.specs.Numbers.{maxU32};
 ghost use Rattle.station.specs.Replying.{Ready};

@@ -1,6 +1,6 @@
 // Which number turns an event down (01, "Numbers for calls turned down").
 ghost use mathlib.Core.Path.{_≡_};
-ghost use mathlib.Core.Bool.{Bool, _||_};
+ghost use mathlib.Core.Bool.{_||_};
 ghost use Prim.Native.Nat.{_+_, _^_, _<_};
 ghost use lib.Dec.{ltb, leb, eqb};
 ghost use Rattle.base.specs.Choice.{if_then_else_};

@@ -262,10 +262,29 @@ module _ (memory : Memory) (packets : List Packet) (count kind a b r : ℕ) (w :
           rw (e, re .number-is, re .sought-is, set-getD (memory .numbers) (w .station) zeroNumber, set-getD (memory .sought) (w .station) 0, re .drops-is, there .1, without-length packets count a (there .0), s .0)
           (rw e at law)
 
+    -- Where nothing changes at the station, only the air does.
+    unchanged : c .holding ≡ held → c .number ≡ last → c .sought ≡ sought → (air : Air) → changed air ≡ airing memory (air .packets) (air .count)
+    unfolding labelOf
+    unchanged x y z air =
+        rw (
+          x,
+          y,
+          z,
+          g .label-is,
+          set-getD (memory .s) cell 0,
+          set-getD (memory .m) cell 0,
+          set-getD (memory .d) cell 0,
+          set-getD (memory .rows) cell zeroRow,
+          set-getD (memory .records) slot zeroRecord,
+          set-getD (memory .numbers) (w .station) zeroNumber,
+          set-getD (memory .sought) (w .station) 0,
+          set-getD (memory .active) (w .station) false,
+        )
+
     -- Lose.
     module _ (e : kind ≡ 7) where
       lose-done : Done
-      unfolding droppedOf labelOf sentBy
+      unfolding droppedOf sentBy
       lose-done packets′ room f =
           let lo = loses e in
           let there = lose-there memory packets count kind a b r (g .tested) (g .zero-is) e in
@@ -274,27 +293,7 @@ module _ (memory : Memory) (packets : List Packet) (count kind a b r : ℕ) (w :
           let law =
           lose-happens memory packets count kind a b r (g .tested) (g .zero-is) e packets′
           (rw (lo .drops-is, lo .scope-is, without-length packets count (a % 128) gone, zero-more) at f ∙ append-nil _) in
-          rw (
-            e,
-            lo .holding-is,
-            lo .number-is,
-            lo .sought-is,
-            lo .answer-is,
-            lo .drops-is,
-            lo .scope-is,
-            without-length packets count (a % 128) gone,
-            zero-more,
-            g .label-is,
-            set-getD (memory .s) cell 0,
-            set-getD (memory .m) cell 0,
-            set-getD (memory .d) cell 0,
-            set-getD (memory .rows) cell zeroRow,
-            set-getD (memory .records) slot zeroRecord,
-            set-getD (memory .numbers) (w .station) zeroNumber,
-            set-getD (memory .sought) (w .station) 0,
-            set-getD (memory .active) (w .station) false,
-          )
-          (rw e at law)
+          rw (e, unchanged (lo .holding-is) (lo .number-is) (lo .sought-is) (record { packets = packets′; count = length stays + length sent }), lo .answer-is, lo .drops-is, lo .scope-is, without-length packets count (a % 128) gone, zero-more) (rw e at law)
 
       lose-full : Full
       unfolding droppedOf sentBy
@@ -313,32 +312,13 @@ module _ (memory : Memory) (packets : List Packet) (count kind a b r : ℕ) (w :
           duplicate-7 memory packets count kind a b r (g .tested) (g .zero-is) e (rw (du .drops-is, du .scope-is, packets-count packets count) at full)
 
       double-done : Done
-      unfolding droppedOf labelOf sentBy
+      unfolding droppedOf sentBy
       double-done packets′ room f =
           let du = doubles e in
           let law =
           duplicate-happens memory packets count kind a b r (g .tested) (g .zero-is) e packets′ (rw (du .drops-is, du .scope-is, packets-count packets count) at room)
           (rw (du .drops-is, du .scope-is, du .packet-is, packets-count packets count) at f) in
-          rw (
-            e,
-            du .holding-is,
-            du .number-is,
-            du .sought-is,
-            du .answer-is,
-            du .drops-is,
-            du .scope-is,
-            packets-count packets count,
-            g .label-is,
-            set-getD (memory .s) cell 0,
-            set-getD (memory .m) cell 0,
-            set-getD (memory .d) cell 0,
-            set-getD (memory .rows) cell zeroRow,
-            set-getD (memory .records) slot zeroRecord,
-            set-getD (memory .numbers) (w .station) zeroNumber,
-            set-getD (memory .sought) (w .station) 0,
-            set-getD (memory .active) (w .station) false,
-          )
-          (rw e at law)
+          rw (e, unchanged (du .holding-is) (du .number-is) (du .sought-is) (record { packets = packets′; count = length stays + length sent }), du .answer-is, du .drops-is, du .scope-is, packets-count packets count) (rw e at law)
 
     pub change-7 : Full
     change-7 full = go which
