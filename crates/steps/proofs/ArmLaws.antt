@@ -82,23 +82,23 @@ class-cut kind carried = go (eqb kind 1 || eqb kind 4 || eqb kind 5) (eqb kind 9
     go false false false p false q v r e = absurd (omega arith)
 
 -- What is gathered where an event looks.
-pub seen : (memory : Memory) (packets : List Packet) (count kind a b n : ℕ) (w : Spot) (pair : ℕ) → memoryInRange (view (airing memory packets count)) ≡ true → memory .n ≡ n → n ≤ 16
+pub seen : (memory : Memory) (packets : List Packet) (count kind a b : ℕ) (w : Spot) (pair : ℕ) → memoryInRange (view (airing memory packets count)) ≡ true → memory .n ≤ 16
     → (kind ≢ 6 → (w .station ≡ a % 16) × (w .destination ≡ b % 16) × (w .source ≡ 0)) → pair ≡ pairPlace (w .station) (w .destination)
-    → Seen (view (airing memory packets count)) kind a b n count (getD (memory .links) pair false) (getD (memory .active) (w .station) false) (getD (memory .numbers) (w .station) zeroNumber .0)
+    → Seen (view (airing memory packets count)) kind a b (memory .n) count (getD (memory .links) pair false) (getD (memory .active) (w .station) false) (getD (memory .numbers) (w .station) zeroNumber .0)
 unfolding view
-seen memory packets count kind a b n w pair ranged size high spot pair-is = record {
+seen memory packets count kind a b w pair ranged high spot pair-is = record {
   ranged = ranged;
-  size = size;
+  size = refl;
   packets = packets-count packets count;
   link = λ k x y apart. link-pair (memory .links) a b apart ∙ ap (λ (z : ℕ). getD (memory .links) z false) (sym (pair-is ∙ ap₂ pairPlace (at k x) (next k y)));
   activity = λ k x. ap (λ (z : ℕ). getD (memory .active) z false) (sym (at k x));
   number = λ k x. number-at (memory .numbers) a ∙ ap (λ (z : ℕ). getD (memory .numbers) z zeroNumber .0) (sym (at k x));
 }
   where
-    at : kind < 6 → a < n → w .station ≡ a
+    at : kind < 6 → a < memory .n → w .station ≡ a
     at k x = omega (arith, spot (λ e. omega arith) .0, high)
 
-    next : kind < 6 → b < n → w .destination ≡ b
+    next : kind < 6 → b < memory .n → w .destination ≡ b
     next k y = omega (arith, spot (λ e. omega arith) .1, high)
 
 -- An event on memory in range, which its tests turned down with r, or not (0).

@@ -1,10 +1,10 @@
 -- Solicit, Lose, Duplicate, and a request or a reply delivered, as one change at a station.
-use Prim.Native.Nat.{ℕ, suc, _+_, _-_, _%_, _≤_, _<_}
+use Prim.Native.Nat.{ℕ, _+_, _-_, _%_, _≤_, _<_}
 use mathlib.Core.Path.{_≡_, refl, sym, ap, _∙_}
 use mathlib.Core.Logic.{_≢_, _⊎_, inl, inr}
 use mathlib.Core.Bool.{Bool, true, false, _&&_, _||_}
 use mathlib.Core.List.{List, _++_, append-nil}
-use lib.ListN.{length, getD, set, take, drop, length-set}
+use lib.ListN.{length, getD, set, length-set}
 use lib.Seq.{set-getD}
 use lib.Dec.{eqb, leb}
 use native.Mathlib.Omega.{arith}
@@ -33,8 +33,7 @@ use Rattle.decisions.specs.declared.changing.Change.{Change}
 use Rattle.decisions.specs.Refusing.{Passes}
 use Rattle.decisions.specs.Changing.{classOf, Solicits, reaction, Reacts, Loses, Doubles}
 use Rattle.steps.specs.Happens.{happened, Happens}
-use Rattle.steps.specs.Parting.{droppedOf}
-use Rattle.steps.proofs.PacketMoves.{without-length}
+use Rattle.steps.proofs.PacketMoves.{without, without-length, exchanged}
 use Rattle.steps.proofs.RunLaws.{airing, Shape}
 use Rattle.steps.proofs.ArmLaws.{Tested, known, is-event, passes, both-below}
 use Rattle.steps.proofs.AirLaws.{solicit-7, solicit-happens, lose-there, lose-happens, duplicate-7, duplicate-happens}
@@ -132,10 +131,10 @@ module _ (memory : Memory) (packets : List Packet) (count kind a b r : ℕ) (w :
       go (inr (inr (inr x))) = absurd (omega (arith, e))
 
   -- What the call does there, by its kind.
-  module _ (c : Change) (solicits : kind ≡ 3 → Solicits held (last .0) (w .station) (w .destination) c) (reacts : kind ≡ 6 → Reacts p held last sought (memory .links) c)
-      (loses : kind ≡ 7 → Loses held last sought c) (doubles : kind ≡ 8 → Doubles p held last sought c) where
+  module _ (c : Change) (does : (kind ≡ 3 → Solicits held (last .0) (w .station) (w .destination) c) × ((kind ≡ 6 → Reacts p held last sought (memory .links) c)
+      × ((kind ≡ 7 → Loses held last sought c) × (kind ≡ 8 → Doubles p held last sought c)))) where
     abbrev stays : List model.Packet
-    stays = droppedOf (c .drops) (a % 128) (packetsOf packets count)
+    stays = if c .drops then without (a % 128) (packetsOf packets count) else packetsOf packets count
 
     abbrev sent : List model.Packet
     sent = sentBy (c .scope) (memory .links) (memory .n) (w .station) (c .packet)
@@ -182,16 +181,15 @@ module _ (memory : Memory) (packets : List Packet) (count kind a b r : ℕ) (w :
     goes d = go which
       where
         go : (kind ≡ 3) ⊎ (((kind ≡ 6) × (p .kind ≢ 3)) ⊎ ((kind ≡ 7) ⊎ (kind ≡ 8))) → a % 128 < count
-        go (inl x) = absurd (clash d (solicits x .drops-is))
+        go (inl x) = absurd (clash d (does .0 x .drops-is))
         go (inr (inl x)) = let there = arrives memory packets count kind a b r (g .tested) (g .zero-is) (x .0) in omega (arith, there)
         go (inr (inr (inl x))) = let there = lose-there memory packets count kind a b r (g .tested) (g .zero-is) x in omega (arith, there)
-        go (inr (inr (inr x))) = absurd (clash d (doubles x .drops-is))
+        go (inr (inr (inr x))) = absurd (clash d (does .1 .1 .1 x .drops-is))
 
-    pub stays-length : length stays ≡ (if c .drops then count - 1 else count)
-    unfolding droppedOf
+    stays-length : length stays ≡ (if c .drops then count - 1 else count)
     stays-length = go (c .drops) refl
       where
-        go : (x : Bool) → c .drops ≡ x → length (if x then take (a % 128) (packetsOf packets count) ++ drop (suc (a % 128)) (packetsOf packets count) else packetsOf packets count) ≡ (if x then count - 1 else count)
+        go : (x : Bool) → c .drops ≡ x → length (if x then without (a % 128) (packetsOf packets count) else packetsOf packets count) ≡ (if x then count - 1 else count)
         go true d = without-length packets count (a % 128) (goes d)
         go false d = packets-count packets count
 
@@ -201,16 +199,15 @@ module _ (memory : Memory) (packets : List Packet) (count kind a b r : ℕ) (w :
       spots = g .call-spot (λ q. omega arith)
 
       solicit-full : Full
-      unfolding droppedOf
       solicit-full full =
-          let so = solicits e in
+          let so = does .0 e in
           solicit-7 memory packets count kind a b r (g .tested) (g .zero-is) e cell l (c .packet) (rw (spots .0, spots .1) at (g .cell-is)) (g .label-is)
           (rw (spots .0, spots .1) at (so .body-is)) (rw (so .drops-is, so .scope-is, packets-count packets count, spots .0) at full)
 
       solicit-done : Done
-      unfolding droppedOf labelOf
+      unfolding labelOf
       solicit-done packets′ room f =
-          let so = solicits e in
+          let so = does .0 e in
           let law =
           solicit-happens memory packets count kind a b r (g .tested) (g .zero-is) e cell l (c .packet) (rw (spots .0, spots .1) at (g .cell-is)) (g .label-is)
           (rw (spots .0, spots .1) at (so .body-is)) packets′ (rw (so .drops-is, so .scope-is, packets-count packets count, spots .0) at room)
@@ -241,18 +238,16 @@ module _ (memory : Memory) (packets : List Packet) (count kind a b r : ℕ) (w :
       at-receiver = receiver e q
 
       react-full : Full
-      unfolding droppedOf
       react-full full =
-          let re = reacts e in
+          let re = does .1 .0 e in
           let s = at-receiver in
           let there = arrives memory packets count kind a b r (g .tested) (g .zero-is) e in
           reaction-7 memory packets count kind a b r (g .tested) (g .zero-is) e q cell slot l (rw (s .0, s .1) at (g .cell-is)) (rw (s .0, s .2) at (g .slot-is)) (g .label-is)
           (reaction c) (rw (s .0) at (re .reacted)) (rw (re .drops-is, there .1, without-length packets count a (there .0), s .0) at full)
 
       react-done : Done
-      unfolding droppedOf
       react-done packets′ room f =
-          let re = reacts e in
+          let re = does .1 .0 e in
           let s = at-receiver in
           let there = arrives memory packets count kind a b r (g .tested) (g .zero-is) e in
           let law =
@@ -284,9 +279,9 @@ module _ (memory : Memory) (packets : List Packet) (count kind a b r : ℕ) (w :
     -- Lose.
     module _ (e : kind ≡ 7) where
       lose-done : Done
-      unfolding droppedOf sentBy
+      unfolding sentBy
       lose-done packets′ room f =
-          let lo = loses e in
+          let lo = does .1 .1 .0 e in
           let there = lose-there memory packets count kind a b r (g .tested) (g .zero-is) e in
           let gone : a % 128 < count = omega (arith, there) in
           let zero-more : count - 1 + 0 ≡ count - 1 = omega arith in
@@ -296,9 +291,9 @@ module _ (memory : Memory) (packets : List Packet) (count kind a b r : ℕ) (w :
           rw (e, unchanged (lo .holding-is) (lo .number-is) (lo .sought-is) (record { packets = packets′; count = length stays + length sent }), lo .answer-is, lo .drops-is, lo .scope-is, without-length packets count (a % 128) gone, zero-more) (rw e at law)
 
       lose-full : Full
-      unfolding droppedOf sentBy
+      unfolding sentBy
       lose-full full =
-          let lo = loses e in
+          let lo = does .1 .1 .0 e in
           let there = lose-there memory packets count kind a b r (g .tested) (g .zero-is) e in
           let more : airLimit < count - 1 + 0 = rw (lo .drops-is, lo .scope-is, without-length packets count (a % 128) (omega (arith, there))) at full in
           absurd (omega (arith, more, known memory packets count kind a b r (g .tested) .air-count))
@@ -306,38 +301,60 @@ module _ (memory : Memory) (packets : List Packet) (count kind a b r : ℕ) (w :
     -- Duplicate.
     module _ (e : kind ≡ 8) where
       double-full : Full
-      unfolding droppedOf sentBy
+      unfolding sentBy
       double-full full =
-          let du = doubles e in
+          let du = does .1 .1 .1 e in
           duplicate-7 memory packets count kind a b r (g .tested) (g .zero-is) e (rw (du .drops-is, du .scope-is, packets-count packets count) at full)
 
       double-done : Done
-      unfolding droppedOf sentBy
+      unfolding sentBy
       double-done packets′ room f =
-          let du = doubles e in
+          let du = does .1 .1 .1 e in
           let law =
           duplicate-happens memory packets count kind a b r (g .tested) (g .zero-is) e packets′ (rw (du .drops-is, du .scope-is, packets-count packets count) at room)
           (rw (du .drops-is, du .scope-is, du .packet-is, packets-count packets count) at f) in
           rw (e, unchanged (du .holding-is) (du .number-is) (du .sought-is) (record { packets = packets′; count = length stays + length sent }), du .answer-is, du .drops-is, du .scope-is, packets-count packets count) (rw e at law)
 
-    pub change-7 : Full
-    change-7 full = go which
-      where
-        go : (kind ≡ 3) ⊎ (((kind ≡ 6) × (p .kind ≢ 3)) ⊎ ((kind ≡ 7) ⊎ (kind ≡ 8))) → Happens m (eventOf kind a b) (happened m 7 0 0)
-        go (inl x) = solicit-full x full
-        go (inr (inl x)) = react-full (x .0) (x .1) full
-        go (inr (inr (inl x))) = lose-full x full
-        go (inr (inr (inr x))) = double-full x full
-
     -- With the numbers that the code counted.
-    pub change-happens : (stay number tells : ℕ) → stay ≡ length stays → number ≡ length sent → tells ≡ (if eqb kind 8 then 0 else number)
-        → (packets′ : List Packet) → stay + number ≤ airLimit → packetsOf packets′ (length stays + length sent) ≡ stays ++ sent
-        → Happens m (eventOf kind a b) (happened (changed (record { packets = packets′; count = stay + number })) (c .answer) tells 0)
-    change-happens stay number tells x y z packets′ room f = rw (z, x, y) (go which)
-      where
-        go : (kind ≡ 3) ⊎ (((kind ≡ 6) × (p .kind ≢ 3)) ⊎ ((kind ≡ 7) ⊎ (kind ≡ 8)))
-            → Happens m (eventOf kind a b) (happened (changed (record { packets = packets′; count = length stays + length sent })) (c .answer) (if eqb kind 8 then 0 else length sent) 0)
-        go (inl e) = solicit-done e packets′ (omega (arith, x, y)) f
-        go (inr (inl e)) = react-done (e .0) (e .1) packets′ (omega (arith, x, y)) f
-        go (inr (inr (inl e))) = lose-done e packets′ (omega (arith, x, y)) f
-        go (inr (inr (inr e))) = double-done e packets′ (omega (arith, x, y)) f
+    module _ (stay number : ℕ) (x : stay ≡ (if c .drops then count - 1 else count)) (y : number ≡ length sent) where
+      staying : stay ≡ length stays
+      staying = x ∙ sym stays-length
+
+      pub change-7 : airLimit < stay + number → Happens m (eventOf kind a b) (happened m 7 0 0)
+      change-7 over = go which
+        where
+          full : airLimit < length stays + length sent
+          full = omega (arith, over, staying, y)
+
+          go : (kind ≡ 3) ⊎ (((kind ≡ 6) × (p .kind ≢ 3)) ⊎ ((kind ≡ 7) ⊎ (kind ≡ 8))) → Happens m (eventOf kind a b) (happened m 7 0 0)
+          go (inl e) = solicit-full e full
+          go (inr (inl e)) = react-full (e .0) (e .1) full
+          go (inr (inr (inl e))) = lose-full e full
+          go (inr (inr (inr e))) = double-full e full
+
+      -- What `exchange` gives where packet k goes, and what `transmit` gives where all stay.
+      abbrev Moved : List Packet → Type 0
+      Moved packets′ = ((c .drops ≡ true) × (packetsOf packets′ (stay + length sent) ≡ without (a % 128) (packetsOf packets (stay + 1)) ++ sent))
+          ⊎ ((c .drops ≡ false) × (packetsOf packets′ (stay + length sent) ≡ packetsOf packets stay ++ sent))
+
+      moved : (packets′ : List Packet) → Moved packets′ → packetsOf packets′ (length stays + length sent) ≡ stays ++ sent
+      moved packets′ (inl (d, e)) =
+          let s : stay ≡ count - 1 = x ∙ rw d in
+          rw d (exchanged packets count (a % 128) (goes d) packets′ sent (rw s at e))
+      moved packets′ (inr (d, e)) =
+          let s : stay ≡ count = x ∙ rw d in
+          rw (d, packets-count packets count) (rw s at e)
+
+      pub change-happens : (tells : ℕ) → tells ≡ (if eqb kind 8 then 0 else number) → (packets′ : List Packet) → stay + number ≤ airLimit → Moved packets′
+          → Happens m (eventOf kind a b) (happened (changed (record { packets = packets′; count = stay + number })) (c .answer) tells 0)
+      change-happens tells z packets′ few f = rw (z, staying, y) (go which)
+        where
+          room : length stays + length sent ≤ airLimit
+          room = omega (arith, few, staying, y)
+
+          go : (kind ≡ 3) ⊎ (((kind ≡ 6) × (p .kind ≢ 3)) ⊎ ((kind ≡ 7) ⊎ (kind ≡ 8)))
+              → Happens m (eventOf kind a b) (happened (changed (record { packets = packets′; count = length stays + length sent })) (c .answer) (if eqb kind 8 then 0 else length sent) 0)
+          go (inl e) = solicit-done e packets′ room (moved packets′ f)
+          go (inr (inl e)) = react-done (e .0) (e .1) packets′ room (moved packets′ f)
+          go (inr (inr (inl e))) = lose-done e packets′ room (moved packets′ f)
+          go (inr (inr (inr e))) = double-done e packets′ room (moved packets′ f)

@@ -1,6 +1,6 @@
 -- Laws of the packets that stay in the air.
 use Prim.Native.Nat.{ℕ, suc, _+_, _-_, _≤_, _<_}
-use mathlib.Core.Path.{_≡_, refl, _∙_}
+use mathlib.Core.Path.{_≡_, refl, ap, _∙_}
 use mathlib.Core.Logic.{_≢_}
 use mathlib.Core.Bool.{Bool, true, false, not}
 use mathlib.Core.List.{List, _++_}
@@ -8,14 +8,13 @@ use lib.ListN.{length, take, drop, length-append, length-take, length-drop}
 use native.Mathlib.Omega.{arith}
 use lib.Dec.{eqb}
 use borrow.Author.Tests.{ne-eqb, eqb-true, eqb-false}
-use Rattle.base.specs.Lists.{keep}
 use Rattle.base.proofs.Lists.{keep-length}
 use Rattle.model.specs.Memory as model
 use Rattle.model.specs.Calls.{between}
 use Rattle.network.specs.declared.Packet.{Packet}
 use Rattle.network.specs.View.{packetsOf}
 use Rattle.network.proofs.PacketLaws.{packets-count}
-use Rattle.steps.specs.Parting.{restOf}
+use Rattle.steps.specs.Parting.{apart, restOf}
 
 -- The packets but packet k.
 abbrev pub without : ℕ → List model.Packet → List model.Packet
@@ -35,21 +34,25 @@ module _ (packets : List Packet) (count k : ℕ) (h : k < count) where
       rw without-length (rw same at e)
 
 -- The packets that stay where rows are cut, by the kind.
-module _ (kind : ℕ) (air : List model.Packet) (k a b : ℕ) where
-  pub rest-down : kind ≡ 2 → restOf kind air k a b ≡ keep (λ p. not (between a b p)) air
+module _ (kind : ℕ) (packets : List Packet) (count k a b : ℕ) where
+  abbrev rest : List model.Packet
+  rest = restOf kind (packetsOf packets count) k a b
+
+  pub rest-down : kind ≡ 2 → rest ≡ apart a b (packetsOf packets count)
   unfolding restOf
   rest-down e = rw e
 
-  pub rest-error : kind ≢ 2 → restOf kind air k a b ≡ without k air
+  pub rest-error : kind ≢ 2 → rest ≡ without k (packetsOf packets count)
   unfolding restOf
   rest-error e = rw (ne-eqb kind 2 e)
 
--- They are no more than there were.
-pub rest-few : (kind : ℕ) (packets : List Packet) (count k a b : ℕ) → (kind ≢ 2 → k < count) → length (restOf kind (packetsOf packets count) k a b) ≤ count
-rest-few kind packets count k a b there = go (eqb kind 2) refl
-  where
-    go : (x : Bool) → eqb kind 2 ≡ x → length (restOf kind (packetsOf packets count) k a b) ≤ count
-    go true e = rw (rest-down kind (packetsOf packets count) k a b (eqb-true kind 2 e)) (omega (arith, keep-length (λ p. not (between a b p)) (packetsOf packets count), packets-count packets count))
-    go false e =
-        let h = eqb-false kind 2 e in
-        rw (rest-error kind (packetsOf packets count) k a b h) (omega (arith, without-length packets count k (there h)))
+  pub rest-one-less : kind ≢ 2 → k < count → length rest ≡ count - 1
+  rest-one-less e there = ap length (rest-error e) ∙ without-length packets count k there
+
+  -- They are no more than there were.
+  pub rest-few : (kind ≢ 2 → k < count) → length rest ≤ count
+  rest-few there = go (eqb kind 2) refl
+    where
+      go : (x : Bool) → eqb kind 2 ≡ x → length rest ≤ count
+      go true e = rw (rest-down (eqb-true kind 2 e)) (omega (arith, keep-length (λ p. not (between a b p)) (packetsOf packets count), packets-count packets count))
+      go false e = let h = eqb-false kind 2 e in omega (arith, rest-one-less h (there h))

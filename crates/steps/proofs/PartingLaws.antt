@@ -7,6 +7,7 @@ use mathlib.Core.List.{List, [], _++_, map, append-nil, append-assoc}
 use lib.ListN.{length, getD, set, length-append, length-map}
 use lib.Seq.{set-getD}
 use lib.Dec.{eqb}
+use native.Mathlib.Nat.{add-zero}
 use native.Mathlib.Omega.{arith}
 use Rattle.base.specs.Choice.{if_then_else_}
 use Rattle.model.specs.Memory as model
@@ -29,7 +30,9 @@ use Rattle.decisions.specs.declared.cutting.Cut.{Cut}
 use Rattle.decisions.specs.declared.cutting.Losses.{Losses}
 use Rattle.decisions.specs.Refusing.{Passes}
 use Rattle.steps.specs.Happens.{happened, Happens}
-use Rattle.steps.specs.Parting.{restOf}
+use Rattle.steps.specs.Parting.{apart, restOf}
+use Rattle.steps.proofs.PacketMoves as moves
+use Rattle.steps.proofs.PacketMoves.{without, exchanged}
 use Rattle.steps.proofs.RunLaws.{airing, Shape}
 use Rattle.steps.proofs.ArmLaws.{Tested, known, passes, happens-accepted, happens-7}
 use Rattle.steps.proofs.DeliverLaws.{arrives, carried, rest, delivered, deliver-7, deliver-accepted}
@@ -51,6 +54,12 @@ cut-below memory packets count kind a b r h none cut (inr w) parts errs =
     let c = carried memory packets count kind a b r h none (w .0) in
     let k = errs (w .0) in
     (omega (arith, k .0, c .receiver-below), omega (arith, k .1, c .sender-below), λ q. c .apart (sym (k .1) ∙ sym q ∙ k .0))
+
+-- The error that is delivered is there.
+pub cut-there : (memory : Memory) (packets : List Packet) (count kind a b r : ℕ) → Tested memory packets count kind a b r → r ≡ 0
+    → (kind ≡ 2) ⊎ ((kind ≡ 6) × (getD packets (a % 128) zeroPacket .kind ≡ 3)) → kind ≢ 2 → a % 128 < count
+cut-there memory packets count kind a b r h none (inl e) other = absurd (other e)
+cut-there memory packets count kind a b r h none (inr w) other = omega (arith, arrives memory packets count kind a b r h none (w .0))
 
 -- The packets of an error, by its scope.
 abbrev ErrorScope : ℕ → ℕ → Type 0
@@ -277,22 +286,34 @@ module _ (memory : Memory) (packets : List Packet) (count kind a b r : ℕ) (h :
       go (inl e) = absurd (other e)
       go (inr w) = second-error (w .0) (w .1)
 
-  -- Either.
-  pub cut-7 : airLimit < length left + (length sent + length more) → Happens m (eventOf kind a b) (happened m 7 0 0)
-  cut-7 full = go (g .which)
-    where
-      go : (kind ≡ 2) ⊎ ((kind ≡ 6) × (p .kind ≡ 3)) → Happens m (eventOf kind a b) (happened m 7 0 0)
-      go (inl e) = down-7 e full
-      go (inr w) = error-7 (w .0) (w .1) full
+  -- Either, with the numbers that the code counted.
+  module _ (stay first second : ℕ) (x : stay ≡ length left) (y : first ≡ length sent) (u : second ≡ length more) where
+    pub cut-7 : airLimit < stay + (first + second) → Happens m (eventOf kind a b) (happened m 7 0 0)
+    cut-7 over = go (g .which)
+      where
+        go : (kind ≡ 2) ⊎ ((kind ≡ 6) × (p .kind ≡ 3)) → Happens m (eventOf kind a b) (happened m 7 0 0)
+        go (inl e) = down-7 e (omega (arith, over, x, y, u))
+        go (inr w) = error-7 (w .0) (w .1) (omega (arith, over, x, y, u))
 
-  -- With the numbers that the code counted.
-  pub cut-happens : (stay first second : ℕ) → stay ≡ length left → first ≡ length sent → second ≡ length more
-      → (rows : List Row) (packets′ : List Packet) (answer : ℕ) → stay + (first + second) ≤ airLimit → map rowOf rows ≡ taken
-      → packetsOf packets′ (length left + length sent + length more) ≡ (left ++ sent) ++ more
-      → answer ≡ (if eqb kind 2 then 0 else errorOutcome (losses .removed) (losses .emptied))
-      → Happens m (eventOf kind a b) (happened (next rows (record { packets = packets′; count = stay + first + second })) answer (first + second) 0)
-  cut-happens stay first second x y u rows packets′ answer room t f outcome = rw (x, y, u) (go (g .which))
-    where
-      go : (kind ≡ 2) ⊎ ((kind ≡ 6) × (p .kind ≡ 3)) → Happens m (eventOf kind a b) (happened (next rows (flown packets′)) answer (length sent + length more) 0)
-      go (inl e) = down-happens e rows packets′ answer (omega (arith, x, y, u)) t f (outcome ∙ rw e)
-      go (inr w) = error-happens (w .0) (w .1) rows packets′ answer (omega (arith, x, y, u)) t f (outcome ∙ rw (w .0))
+    -- What `parted` gives at Down, and what `exchange` gives at an error.
+    abbrev Moved : List Packet → Type 0
+    Moved packets′ = let air = apart (cut .first) (cut .second) (packetsOf packets count) in
+        ((kind ≡ 2) × (packetsOf packets′ (length air + length sent + length more) ≡ (air ++ sent) ++ more))
+        ⊎ ((kind ≢ 2) × (packetsOf packets′ (stay + length sent) ≡ without (a % 128) (packetsOf packets (stay + 1)) ++ sent))
+
+    moved : (packets′ : List Packet) → Moved packets′ → packetsOf packets′ (length left + length sent + length more) ≡ (left ++ sent) ++ more
+    moved packets′ (inl (e, f)) = rw (moves.rest-down kind packets count (a % 128) (cut .first) (cut .second) e) f
+    moved packets′ (inr (e, f)) =
+        let there = cut-there memory packets count kind a b r h zero (g .which) e in
+        let one-less : stay ≡ count - 1 = x ∙ moves.rest-one-less kind packets count (a % 128) (cut .first) (cut .second) e there in
+        rw (moves.rest-error kind packets count (a % 128) (cut .first) (cut .second) e, more-none e, add-zero)
+        (exchanged packets count (a % 128) there packets′ sent (rw one-less at f) ∙ sym (append-nil _))
+
+    pub cut-happens : (rows : List Row) (packets′ : List Packet) (answer : ℕ) → stay + (first + second) ≤ airLimit → map rowOf rows ≡ taken → Moved packets′
+        → answer ≡ (if eqb kind 2 then 0 else errorOutcome (losses .removed) (losses .emptied))
+        → Happens m (eventOf kind a b) (happened (next rows (record { packets = packets′; count = stay + first + second })) answer (first + second) 0)
+    cut-happens rows packets′ answer room t f outcome = rw (x, y, u) (go (g .which))
+      where
+        go : (kind ≡ 2) ⊎ ((kind ≡ 6) × (p .kind ≡ 3)) → Happens m (eventOf kind a b) (happened (next rows (flown packets′)) answer (length sent + length more) 0)
+        go (inl e) = down-happens e rows packets′ answer (omega (arith, x, y, u)) t (moved packets′ f) (outcome ∙ rw e)
+        go (inr w) = error-happens (w .0) (w .1) rows packets′ answer (omega (arith, x, y, u)) t (moved packets′ f) (outcome ∙ rw (w .0))

@@ -1,20 +1,19 @@
-// The packets in the air after an event: one of them goes, or those between two stations, and others are sent.
+// The packets that stay in the air, and how many.
 ghost use mathlib.Core.Path.{_≡_};
 ghost use mathlib.Core.Logic.{_≢_};
 ghost use mathlib.Core.Bool.{true};
-ghost use mathlib.Core.List.{[], _++_};
+ghost use mathlib.Core.List.{_++_};
 ghost use Prim.Native.Nat.{_+_, _-_, _<_, _≤_};
 ghost use lib.ListN.{length};
 ghost use Rattle.base.specs.Choice.{if_then_else_};
 ghost use Rattle.model.specs.Memory.{airLimit};
 ghost use Rattle.network.specs.View.{packetsOf};
 ghost use Rattle.station.specs.Reacting.{sentBy};
-ghost use Rattle.steps.specs.Parting.{droppedOf, restOf};
+ghost use Rattle.steps.specs.Parting.{apart, restOf};
 use network::AIR_LIMIT;
 use network::Packet;
 use network::packets::without_between;
 use station::sending::copies;
-use station::sending::exchange;
 use station::sending::transmit;
 
 // How many packets stay, where packet k goes or not.
@@ -26,29 +25,6 @@ pub fn stay(count: u8, drops: bool) -> u8
         return count - 1;
     }
     count
-}
-
-// The packets that stay, with those that a sends.
-pub fn moved(
-    packets: [Packet; AIR_LIMIT as usize],
-    count: u8,
-    k: usize,
-    drops: bool,
-    scope: u8,
-    links: [bool; 256],
-    n: u8,
-    a: u8,
-    p: Packet,
-) -> [Packet; AIR_LIMIT as usize]
-    requires { ⌜ (n ≤ 16) × (a < 16) × (count ≤ airLimit) × (drops ≡ true → k < count) ⌝ }
-    requires { ⌜ length (droppedOf drops k (packetsOf packets count)) + length (sentBy scope links n a p) ≤ airLimit ⌝ }
-    ensures { λ r. ⌜ packetsOf r (length (droppedOf drops k (packetsOf packets count)) + length (sentBy scope links n a p))
-        ≡ droppedOf drops k (packetsOf packets count) ++ sentBy scope links n a p ⌝ }
-{
-    if drops {
-        return exchange(packets, count - 1, k, scope, links, n, a, p);
-    }
-    transmit(packets, count, scope, links, n, a, p)
 }
 
 // How many packets stay where rows are cut: at Down those that are not between a and b, at an error all but packet k.
@@ -70,12 +46,10 @@ pub fn left_of(
     count - 1
 }
 
-// Those packets, with what a, then b, sends.
-pub fn resent(
-    kind: u8,
+// The packets that are not between a and b, with what a, then b, sends.
+pub fn parted(
     packets: [Packet; AIR_LIMIT as usize],
     count: u8,
-    k: usize,
     links: [bool; 256],
     n: u8,
     a: u8,
@@ -85,18 +59,15 @@ pub fn resent(
     other: u8,
     q: Packet,
 ) -> [Packet; AIR_LIMIT as usize]
-    requires { ⌜ (n ≤ 16) × (a < 16) × (b < 16) × (count ≤ airLimit) × (kind ≢ 2 → (k < count) × (sentBy other links n b q ≡ [])) ⌝ }
-    requires { ⌜ length (restOf kind (packetsOf packets count) k a b) + length (sentBy scope links n a p) + length (sentBy other links n b q) ≤ airLimit ⌝ }
-    ensures { λ r. ⌜ packetsOf r (length (restOf kind (packetsOf packets count) k a b) + length (sentBy scope links n a p) + length (sentBy other links n b q))
-        ≡ (restOf kind (packetsOf packets count) k a b ++ sentBy scope links n a p) ++ sentBy other links n b q ⌝ }
+    requires { ⌜ (n ≤ 16) × (a < 16) × (b < 16) × (count ≤ airLimit) ⌝ }
+    requires { ⌜ length (apart a b (packetsOf packets count)) + length (sentBy scope links n a p) + length (sentBy other links n b q) ≤ airLimit ⌝ }
+    ensures { λ r. ⌜ packetsOf r (length (apart a b (packetsOf packets count)) + length (sentBy scope links n a p) + length (sentBy other links n b q))
+        ≡ (apart a b (packetsOf packets count) ++ sentBy scope links n a p) ++ sentBy other links n b q ⌝ }
 {
-    if kind == 2 {
-        let rest = without_between(packets, count, a, b);
-        let kept = rest.packets;
-        let left = rest.count;
-        let sent = copies(scope, links, n, a, p);
-        let told = transmit(kept, left, scope, links, n, a, p);
-        return transmit(told, left + sent, other, links, n, b, q);
-    }
-    exchange(packets, count - 1, k, scope, links, n, a, p)
+    let rest = without_between(packets, count, a, b);
+    let kept = rest.packets;
+    let left = rest.count;
+    let sent = copies(scope, links, n, a, p);
+    let told = transmit(kept, left, scope, links, n, a, p);
+    transmit(told, left + sent, other, links, n, b, q)
 }

@@ -11,8 +11,7 @@ ghost use Rattle.network.specs.View.{view};
 ghost use Rattle.steps.specs.Ran.{Ran, told, ToldFit};
 use crate::lines::line;
 use crate::parting::left_of;
-use crate::parting::moved;
-use crate::parting::resent;
+use crate::parting::parted;
 use crate::parting::stay;
 use decisions::changing::change_of;
 use decisions::changing::class_of;
@@ -40,6 +39,8 @@ use network::places::place;
 use station::Holding;
 use station::sending::copies;
 use station::sending::error_scope;
+use station::sending::exchange;
+use station::sending::transmit;
 
 // An event: its kind and its operands.
 pub struct Event {
@@ -71,8 +72,6 @@ pub fn run(mut memory: Memory, kinds: &[u8], operands: &[u8], lines: &mut [u64])
     ensures fits { λ _. ⌜ ToldFit (view memory) (now (kinds .entry)) (now (operands .entry)) (length (now (kinds .entry))) ⌝ }
     ensures told { λ _. ⌜ now (lines .exit) ≡ sets (now (lines .entry)) 0 (tabulate (length (now (kinds .entry))) (told (view memory) (now (kinds .entry)) (now (operands .entry)))) ⌝ }
 {
-    let n = memory.n;
-    let limit = most_hops(n);
     let air = memory.air;
     let mut packets = air.packets;
     let mut count = air.count;
@@ -84,6 +83,7 @@ pub fn run(mut memory: Memory, kinds: &[u8], operands: &[u8], lines: &mut [u64])
         let b = event.b;
         let at = i;
         i += 1;
+        let n = memory.n;
         let k = (a % AIR_LIMIT) as usize;
         let p = packets[k];
         let spot = spot_of(kind, a, b, p);
@@ -108,6 +108,7 @@ pub fn run(mut memory: Memory, kinds: &[u8], operands: &[u8], lines: &mut [u64])
             memory.active[own] = active & (kind != 4);
             lines[at] = line(0, 0, count, 0);
         } else if class == 1 {
+            let limit = most_hops(n);
             let mut walk = Walk {
                 answer: 0,
                 at: station,
@@ -158,28 +159,22 @@ pub fn run(mut memory: Memory, kinds: &[u8], operands: &[u8], lines: &mut [u64])
                     let slot = place(second, v);
                     let row = memory.rows[cell];
                     let other = memory.rows[slot];
-                    memory.rows[cell] = cut_row(row, second, cut.mask, v);
-                    memory.rows[slot] = cut_row(other, first, cut.others, v);
+                    let mine = cut_row(row, second, cut.mask, v);
+                    let theirs = cut_row(other, first, cut.others, v);
+                    memory.rows[cell] = mine;
+                    memory.rows[slot] = theirs;
                     v += 1;
                 }
                 memory.links = links;
-                packets = resent(
-                    kind,
-                    packets,
-                    count,
-                    k,
-                    links,
-                    n,
-                    first,
-                    scope,
-                    q,
-                    second,
-                    other,
-                    z,
-                );
-                count = left + sent + more;
+                let total = left + sent + more;
                 let answer = cut_answer(kind, losses.removed, losses.emptied);
-                lines[at] = line(answer, sent + more, count, 0);
+                lines[at] = line(answer, sent + more, total, 0);
+                if kind == 2 {
+                    packets = parted(packets, count, links, n, first, scope, q, second, other, z);
+                } else {
+                    packets = exchange(packets, left, k, scope, links, n, first, q);
+                }
+                count = total;
             }
         } else {
             let cell = place(station, t);
@@ -217,19 +212,13 @@ pub fn run(mut memory: Memory, kinds: &[u8], operands: &[u8], lines: &mut [u64])
                 memory.numbers[own] = asked;
                 memory.sought[own] = c.sought;
                 memory.active[own] = holding.active;
-                packets = moved(
-                    packets,
-                    count,
-                    k,
-                    c.drops,
-                    c.scope,
-                    links,
-                    n,
-                    station,
-                    packet,
-                );
                 count = left + sent;
                 lines[at] = line(c.answer, told(kind, sent), count, 0);
+                if c.drops {
+                    packets = exchange(packets, left, k, c.scope, links, n, station, packet);
+                } else {
+                    packets = transmit(packets, left, c.scope, links, n, station, packet);
+                }
             }
         }
     }

@@ -3,7 +3,7 @@ use mathlib.Core.Path.{sym, ap, _∙_}
 use lib.ListN.{length}
 use borrow.Author.Needs.{needs}
 use Rattle.network.proofs.PacketLaws.{air-length}
-use Rattle.steps.proofs.PacketMoves.{without-length, rest-down, rest-error}
+use Rattle.steps.proofs.PacketMoves.{rest-down, rest-one-less}
 use Rattle.steps.proofs.parting.left_of.Statement.{statement}
 use Rattle.steps.proofs.parting.left_of.Tie as tie
 
@@ -13,13 +13,13 @@ without-between-requires c κs = search needs
 returns : tie.Need-returns
 returns c =
     sym (air-length (c .without-between .result))
-    ∙ ap length (c .without-between .ensures ∙ sym (rest-down _ _ _ _ _ (c .before .if1 .taken)))
+    ∙ ap length (c .without-between .ensures ∙ sym (rest-down _ _ _ _ _ _ (c .before .if1 .taken)))
 
 sub-result : tie.Need-sub-result
 sub-result c = let there = c .before .pre .1 (c .if1 .left) in search needs
 
 returns-2 : tie.Need-returns-2
-returns-2 c = sym (ap length (rest-error _ _ _ _ _ (c .if1 .left)) ∙ without-length _ _ _ (c .before .pre .1 (c .if1 .left)))
+returns-2 c = sym (rest-one-less _ _ _ _ _ _ (c .if1 .left) (c .before .pre .1 (c .if1 .left)))
 
 pub left-of-spec : {M : Type 1} → statement M
 left-of-spec = tie.close (tie.spec without-between-requires returns sub-result returns-2)
