@@ -13,8 +13,8 @@ use Rattle.model.specs.Memory as model
 use Rattle.model.specs.Memory.{Network, rowAt}
 use Rattle.model.specs.Calls.{nextOf, hopLimit}
 use Rattle.model.proofs.Tracing.{follow-arrives, follow-stops, follow-ends, follow-hops}
-use Rattle.network.specs.declared.Row.{Row}
-use Rattle.network.specs.View.{entryOf, rowOf}
+use Rattle.rows.specs.declared.Row.{Row}
+use Rattle.rows.specs.View.{entryOf, rowOf}
 use Rattle.decisions.specs.declared.tracing.Walk.{Walk}
 use Rattle.decisions.specs.Tracing.{tells}
 

@@ -6,7 +6,7 @@ use lib.Dec.{eqb}
 use Rattle.base.specs.Choice.{if_then_else_}
 use Rattle.model.specs.Memory.{Network}
 use Rattle.model.specs.Calls.{Traced, traced, hopLimit, follow}
-use Rattle.network.specs.declared.Row.{Row}
+use Rattle.rows.specs.declared.Row.{Row}
 use Rattle.decisions.specs.declared.tracing.Walk.{Walk}
 
 -- What a walk to t tells in the end: what it told, or what the rest of it will.

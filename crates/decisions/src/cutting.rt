@@ -7,14 +7,14 @@ ghost use Rattle.base.specs.Choice.{if_then_else_};
 ghost use Rattle.base.specs.Lists.{someIn};
 ghost use Rattle.model.specs.Memory.{names, without, rowLimit};
 ghost use Rattle.model.specs.Calls.{bit, empties, errorOutcome};
-ghost use Rattle.network.specs.View.{rowOf};
+ghost use Rattle.rows.specs.View.{rowOf};
 use network::Packet;
-use network::Row;
-use network::rows::bit;
-use network::rows::empties;
-use network::rows::has_station;
-use network::rows::marked;
-use network::rows::without_station;
+use network::masks::bit;
+use network::masks::marked;
+use rows::Row;
+use rows::empties;
+use rows::has_station;
+use rows::without_station;
 
 // Two stations, and the masks of the destinations for which the first loses the second, and the second the first.
 pub struct Cut {

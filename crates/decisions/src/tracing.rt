@@ -4,9 +4,9 @@ ghost use Prim.Native.Nat.{_+_, _<_, _≤_};
 ghost use lib.ListN.{getD};
 ghost use Rattle.model.specs.Memory.{Network, rowAt};
 ghost use Rattle.model.specs.Calls.{nextOf, hopLimit};
-ghost use Rattle.network.specs.View.{rowOf};
+ghost use Rattle.rows.specs.View.{rowOf};
 ghost use Rattle.decisions.specs.Tracing.{GoesOn, tells};
-use network::Row;
+use rows::Row;
 
 // The walk so far: the station it is at, its hops, and its answer, 0 while it goes on.
 pub struct Walk {

@@ -19,7 +19,8 @@ use Rattle.model.specs.Memory.{Packet, Network, place, zeroLabel, zeroRecord, z
 use Rattle.network.specs.declared.RequestNumber.{RequestNumber}
 use Rattle.network.specs.declared.Packet as code
 use Rattle.network.specs.View as view
-use Rattle.network.specs.View.{rowOf, recordOf, packetOf, packetsOf, airOf, labelOf, view}
+use Rattle.network.specs.View.{recordOf, packetOf, packetsOf, airOf, labelOf, view}
+use Rattle.rows.specs.View.{rowOf}
 use Rattle.network.proofs.PacketLaws.{packetIn}
 use Rattle.layout.specs.Places.{numbersAt, soughtAt, activeAt, linksAt, labelsAt, rowsAt, recordsAt, airAt, packetsAt}
 use Rattle.layout.specs.Stored.{storedFlag, storedNumber, storedLabel, storedRow, storedRecord, storedPacket, storedAir, storedMemory, storedNetwork}

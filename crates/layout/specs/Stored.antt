@@ -9,7 +9,7 @@ use Rattle.codec.specs.Bytes.{byteAt, numberAt}
 use Rattle.codec.specs.Tables.{tableAt}
 use Rattle.model.specs.Memory.{Network, airLimit, rowLimit}
 use Rattle.network.specs.declared.RequestNumber.{RequestNumber}
-use Rattle.network.specs.declared.Row.{Row}
+use Rattle.rows.specs.declared.Row.{Row}
 use Rattle.network.specs.declared.Record.{Record}
 use Rattle.network.specs.declared.Packet.{Packet}
 use Rattle.network.specs.declared.Air.{Air}

@@ -4,7 +4,8 @@ ghost use Prim.Native.Nat.{_+_, _^_, _≤_, _<_};
 ghost use lib.ListN.{length, getD};
 ghost use lib.Seq.{sets};
 ghost use Rattle.codec.specs.Bytes.{littleEndian};
-ghost use Rattle.network.specs.View.{successor, rowOf, recordOf};
+ghost use Rattle.network.specs.View.{recordOf};
+ghost use Rattle.rows.specs.View.{successor, rowOf};
 ghost use Rattle.layout.specs.Stored.{storedLabel, storedRow, storedRecord};
 ghost use Rattle.layout.specs.Written.{flag, labelBytes, zeroSuccessor, successorBytes, rowBytes, recordBytes};
 ghost use Rattle.layout.specs.Fits.{LabelFits, RowFits, RecordFits};
@@ -14,10 +15,10 @@ use codec::put_byte;
 use codec::put_number;
 use label::Label;
 use label::label_of;
-use network::ROW_LIMIT;
 use network::Record;
 use network::RequestNumber;
-use network::Row;
+use rows::ROW_LIMIT;
+use rows::Row;
 
 // A flag's byte.
 pub fn flag(yes: bool) -> u8

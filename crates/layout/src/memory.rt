@@ -35,10 +35,10 @@ use codec::put_byte;
 use codec::put_bytes;
 use label::label_of;
 use network::Memory;
-use network::ROW_LIMIT;
 use network::Record;
 use network::RequestNumber;
-use network::Row;
+use rows::ROW_LIMIT;
+use rows::Row;
 
 // What a table is filled with before it is read.
 fn blank_row() -> Row {

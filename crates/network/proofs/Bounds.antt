@@ -10,25 +10,23 @@ use denote.Array.{Array, array-vals}
 use denote.Struct.Laws.{vals}
 use Rattle.base.proofs.Lists.{unmapped}
 use Rattle.base.proofs.Loops.{tabulate-length}
-use Rattle.model.specs.Memory.{rowLimit, airLimit}
+use Rattle.model.specs.Memory.{airLimit}
 use Rattle.model.proofs.Range.{Sized}
 use Rattle.label.specs.declared.Label.{Label}
-use Rattle.network.specs.declared.Row.{Row}
 use Rattle.network.specs.declared.Packet.{Packet}
 use Rattle.network.specs.declared.Air.{Air}
 use Rattle.network.specs.declared.Memory.{Memory}
-use Rattle.network.specs.View.{rowOf, recordOf, labelOf, view}
+use Rattle.network.specs.View.{recordOf, labelOf, view}
+use Rattle.rows.specs.View.{rowOf}
 use Rattle.label.proofs.Label as label
 use Rattle.network.proofs.Packet as packet
 use Rattle.network.proofs.Packet.Laws as packet′
-use Rattle.network.proofs.Row as row
-use Rattle.network.proofs.Row.Laws as row′
 use Rattle.network.proofs.Air as air
 use Rattle.network.proofs.Air.Laws as air′
 use Rattle.network.proofs.Memory as memory
 use Rattle.network.proofs.Memory.Laws as memory′
 
--- That machine values stand for a label, a packet, an array of packets, a row, an air, a memory.
+-- That machine values stand for a label, a packet, an array of packets, an air, a memory.
 abbrev pub ValidLabel : Label → List Val → Type 0
 ValidLabel l values = Is label.the-row l values
 
@@ -37,9 +35,6 @@ ValidPacket p = Is packet.the-row p (vals packet.the-type packet′.the-laws p)
 
 abbrev pub ValidPackets : List Packet → Type 0
 ValidPackets l = Is (Array packet.the-row airLimit) l (array-vals (vals packet.the-type packet′.the-laws) l)
-
-abbrev pub ValidRow : Row → Type 0
-ValidRow r = Is row.the-row r (vals row.the-type row′.the-laws r)
 
 abbrev pub ValidAir : Air → Type 0
 ValidAir a = Is air.the-row a (vals air.the-type air′.the-laws a)
@@ -65,16 +60,6 @@ packet-bounds p valid = record {
   label = label-bounds (p .label) _ (valid .1 .1 .0);
   number-below = valid .1 .1 .1 .0 .1 .1 .0 .1;
   mask-below = valid .1 .1 .1 .1 .0 .1;
-}
-
-pub record RowLengths (r : Row) : Type 0 where
-  pub stations-length : length (r .stations) ≡ rowLimit
-  pub labels-length : length (r .labels) ≡ rowLimit
-
-pub row-lengths : (r : Row) → ValidRow r → RowLengths r
-row-lengths r valid = record {
-  stations-length = unmapped _ (r .stations) rowLimit (valid .1 .1 .1 .0 .1 .0 .1);
-  labels-length = unmapped _ (r .labels) rowLimit (valid .1 .1 .0 .1 .0 .1);
 }
 
 pub array-length : (l : List Packet) → ValidPackets l → length l ≡ airLimit

@@ -1,7 +1,6 @@
 pub mod Bits
 pub mod ViewLaws
 pub mod Bounds
-pub mod RowLaws
 pub mod PacketLaws
 pub mod RangeLaws
 pub mod Ranged

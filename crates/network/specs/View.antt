@@ -3,20 +3,17 @@
 -- model's tables have it, and no test asks for it. A count over its limit is read as a list that long, and a kind other than 1 to 3 as the
 -- body `other`, so that memory out of range is read as a network out of range.
 use Prim.Native.Nat.{ℕ}
-use mathlib.Core.Bool.{Bool, false, not}
-use mathlib.Core.List.{List, [], map}
+use mathlib.Core.Bool.{false}
+use mathlib.Core.List.{List, map}
 use lib.ListN.{getD}
 use lib.Dec.{eqb}
 use Rattle.base.specs.Choice.{if_then_else_}
 use Rattle.base.specs.Lists.{tabulate}
 use Rattle.label.specs.declared.Label.{Label}
-use Rattle.label.specs.Label.{label, above}
+use Rattle.label.specs.Label.{label}
 use Rattle.model.specs.Memory as model
-use Rattle.model.specs.Memory.{names}
 use Rattle.network.specs.declared.RequestNumber.{RequestNumber}
-use Rattle.network.specs.declared.Row.{Row}
-use Rattle.network.specs.declared.rows.Keep.{Keep}
-use Rattle.network.specs.declared.rows.Keep.the-variants.{Under, Without}
+use Rattle.rows.specs.View.{rowOf}
 use Rattle.network.specs.declared.Record.{Record}
 use Rattle.network.specs.declared.Packet.{Packet}
 use Rattle.network.specs.declared.Air.{Air}
@@ -26,29 +23,11 @@ use Rattle.network.specs.declared.Memory.{Memory}
 abbrev pub zeroNumber : RequestNumber
 zeroNumber = record { 0 = 0 }
 
-abbrev pub zeroRow : Row
-zeroRow = record { labels = []; stations = []; count = 0 }
-
 abbrev pub zeroRecord : Record
 zeroRecord = record { cached = label 0 0 0; number = zeroNumber; destination = 0; «last_hop» = 0; passed = false }
 
 abbrev pub zeroPacket : Packet
 zeroPacket = record { label = label 0 0 0; number = zeroNumber; mask = 0; kind = 0; sender = 0; receiver = 0; source = 0; destination = 0; reset = false }
-
--- A row: entry k is a station with the label that it advertised.
-abbrev pub successor : ℕ → Label → model.Successor
-successor station label = record { station = station; label = label }
-
-unfoldable pub entryOf : Row → ℕ → model.Successor
-entryOf row k = successor (getD (row .stations) k 0) (getD (row .labels) k (label 0 0 0))
-
-unfoldable pub rowOf : Row → model.Row
-rowOf row = tabulate (row .count) (entryOf row)
-
--- Which entries stay in a row: those whose label g is above, or those that don't name j.
-unfoldable pub keeps : Keep → model.Successor → Bool
-keeps (Under g) e = above g (e .label)
-keeps (Without j) e = not (names j e)
 
 unfoldable pub recordOf : Record → model.Record
 recordOf r = record { number = r .number .0; destination = r .destination; cached = r .cached; lastHop = r .«last_hop»; passed = r .passed }

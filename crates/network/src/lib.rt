@@ -1,28 +1,19 @@
 // The network's memory by value (01, "The network's memory"). specs/View.antt reads it as the model's network.
 use label::Label;
+use rows::Row;
 
 pub mod links;
+pub mod masks;
 pub mod opening;
 pub mod packets;
 pub mod places;
 pub mod range;
-pub mod rows;
-
-// The most successors of a row.
-pub const ROW_LIMIT: u8 = 4;
 
 // The most packets in the air.
 pub const AIR_LIMIT: u8 = 128;
 
 // A source's request number.
 pub struct RequestNumber(pub u32);
-
-// A row of successors: entry k is the station stations[k] with the label that it advertised, labels[k].
-pub struct Row {
-    pub labels: [Label; ROW_LIMIT as usize],
-    pub stations: [u8; ROW_LIMIT as usize],
-    pub count: u8,
-}
 
 // What a station keeps of a source's last request: its label as C, its number and destination, the last hop, and whether a reply
 // was passed on.

@@ -7,13 +7,13 @@ use crate::AIR_LIMIT;
 use crate::Air;
 use crate::Memory;
 use crate::Packet;
-use crate::ROW_LIMIT;
 use crate::Record;
 use crate::RequestNumber;
-use crate::Row;
 use crate::places::place;
 use label::Label;
 use label::SequenceNumber;
+use rows::ROW_LIMIT;
+use rows::Row;
 
 // Fresh memory of n stations.
 pub fn fresh(n: u8, start: u64) -> Memory

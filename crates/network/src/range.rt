@@ -7,17 +7,18 @@ ghost use lib.ListN.{getD};
 ghost use Rattle.base.specs.Lists.{allBelow, allIn, distinct};
 ghost use Rattle.model.specs.Memory.{stations, successorInRange, rowInRange, recordInRange, ownInRange, cellInRange, rowLimit};
 ghost use Rattle.model.specs.Memory.{headInRange, bodyInRange, packetInRange, airInRange, sizeInRange, memoryInRange};
-ghost use Rattle.network.specs.View.{successor, rowOf, recordOf, bodyOf, packetOf, airOf, view};
+ghost use Rattle.network.specs.View.{recordOf, bodyOf, packetOf, airOf, view};
+ghost use Rattle.rows.specs.View.{successor, rowOf};
 use crate::AIR_LIMIT;
 use crate::Air;
 use crate::Memory;
 use crate::Packet;
-use crate::ROW_LIMIT;
 use crate::Record;
-use crate::Row;
-use crate::rows::find;
 use label::Label;
 use label::label_of;
+use rows::ROW_LIMIT;
+use rows::Row;
+use rows::find;
 use validation::size_in_range;
 
 // An entry of a row that i holds: another station, and a label in range.

@@ -15,9 +15,10 @@ use Rattle.label.specs.declared.Label.{Label}
 use Rattle.label.specs.Label.{isUnassigned}
 use Rattle.model.specs.Memory.{Successor, Network, place, stations, rowLimit}
 use Rattle.model.specs.Printout.{labelLine, isListed, labelLineAt, stationLines, labelLines}
-use Rattle.network.specs.declared.Row.{Row}
+use Rattle.rows.specs.declared.Row.{Row}
 use Rattle.network.specs.declared.Memory.{Memory}
-use Rattle.network.specs.View.{zeroRow, entryOf, rowOf, labelOf, view}
+use Rattle.network.specs.View.{labelOf, view}
+use Rattle.rows.specs.View.{zeroRow, entryOf, rowOf}
 use Rattle.network.proofs.ViewLaws.{label-at, row-at}
 use Rattle.printout.specs.Text.{field, refusalText, labelText}
 

@@ -8,7 +8,8 @@ ghost use lib.Dec.{eqb};
 ghost use Rattle.label.specs.Label.{isUnassigned};
 ghost use Rattle.model.specs.Memory.{stations, memoryInRange, rowLimit};
 ghost use Rattle.model.specs.Printout.{line, labelLine, stationLines, labelLines};
-ghost use Rattle.network.specs.View.{rowOf, view};
+ghost use Rattle.network.specs.View.{view};
+ghost use Rattle.rows.specs.View.{rowOf};
 ghost use Rattle.printout.specs.Text.{refusalText, eventText, labelText};
 ghost use Rattle.printout.specs.Contracts.{PutsAt};
 use crate::text::put_decimal;
@@ -18,8 +19,8 @@ use label::Label;
 use label::is_unassigned;
 use label::label_of;
 use network::Memory;
-use network::Row;
 use network::places::place;
+use rows::Row;
 
 // The line of a script turned down.
 pub fn put_refusal(out: &mut [u8], answer: u32) -> usize

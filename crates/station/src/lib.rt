@@ -2,7 +2,7 @@
 use label::Label;
 use network::Packet;
 use network::Record;
-use network::Row;
+use rows::Row;
 
 pub mod reacting;
 pub mod receiving;

@@ -20,7 +20,7 @@ use label::label_of;
 use network::Packet;
 use network::RequestNumber;
 use network::links::link_up;
-use network::rows::adopted;
+use rows::adopted;
 
 // Whether V's number and destination both match: at the source its last request, elsewhere its record.
 fn matches(p: Packet, held: Holding, number: RequestNumber, sought: u8) -> bool

@@ -7,7 +7,8 @@ ghost use Rattle.label.specs.Label.{isUnassigned, above};
 ghost use Rattle.model.specs.Memory.{Network, request};
 ghost use Rattle.model.specs.Calls as calls;
 ghost use Rattle.model.specs.Calls.{resets, canReply, onwardLabel, onwardReset, onward, atDestination, engage, onRequest};
-ghost use Rattle.network.specs.View.{rowOf, recordOf, requestOf, bodyOf};
+ghost use Rattle.network.specs.View.{recordOf, requestOf, bodyOf};
+ghost use Rattle.rows.specs.View.{rowOf};
 ghost use Rattle.station.specs.Reacting.{Holds, reacts};
 ghost use Rattle.base.specs.Numbers.{maxU32};
 use crate::Holding;
@@ -18,8 +19,8 @@ use label::Label;
 use label::label_of;
 use network::Packet;
 use network::Record;
-use network::Row;
 use network::packets::request;
+use rows::Row;
 
 // 101: whether i is the source, or its record for the source has a number not below R's.
 fn is_known(p: Packet, kept: Record) -> bool

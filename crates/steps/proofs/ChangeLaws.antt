@@ -22,7 +22,8 @@ use Rattle.network.specs.declared.RequestNumber.{RequestNumber}
 use Rattle.network.specs.declared.Packet.{Packet}
 use Rattle.network.specs.declared.Air.{Air}
 use Rattle.network.specs.declared.Memory.{Memory}
-use Rattle.network.specs.View.{zeroNumber, zeroRow, zeroRecord, zeroPacket, packetsOf, labelOf, view}
+use Rattle.network.specs.View.{zeroNumber, zeroRecord, zeroPacket, packetsOf, labelOf, view}
+use Rattle.rows.specs.View.{zeroRow}
 use Rattle.network.proofs.ViewLaws.{number-at}
 use Rattle.network.proofs.PacketLaws.{packets-count}
 use Rattle.station.specs.declared.Holding.{Holding}

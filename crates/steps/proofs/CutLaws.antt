@@ -16,8 +16,8 @@ use Rattle.model.specs.Memory as model
 use Rattle.model.specs.Memory.{Successor, place, rowIn, names, without}
 use Rattle.model.specs.Calls.{bit, takeOut, removes, empties, emptied}
 use Rattle.model.proofs.Rows.{emptied-below, takeOut-other, takeOut-more, takeOut-none, set-takeOut}
-use Rattle.network.specs.declared.Row.{Row}
-use Rattle.network.specs.View.{zeroRow, rowOf}
+use Rattle.rows.specs.declared.Row.{Row}
+use Rattle.rows.specs.View.{zeroRow, rowOf}
 use Rattle.network.proofs.ViewLaws.{row-at}
 use Rattle.decisions.specs.declared.cutting.Cut.{Cut}
 use Rattle.decisions.specs.declared.cutting.Losses.{Losses}

@@ -17,7 +17,8 @@ use Rattle.model.proofs.Refusals.{deliver-limited, sending-7, sending-accepted}
 use Rattle.model.proofs.EventLaws.{call-6}
 use Rattle.network.specs.declared.Packet.{Packet}
 use Rattle.network.specs.declared.Memory.{Memory}
-use Rattle.network.specs.View.{zeroNumber, zeroRow, zeroRecord, zeroPacket, rowOf, recordOf, bodyOf, packetOf, packetsOf, labelOf, view}
+use Rattle.network.specs.View.{zeroNumber, zeroRecord, zeroPacket, recordOf, bodyOf, packetOf, packetsOf, labelOf, view}
+use Rattle.rows.specs.View.{zeroRow, rowOf}
 use Rattle.network.proofs.ViewLaws.{row-at, record-at, number-at, label-at, labels-set}
 use Rattle.network.proofs.PacketLaws.{packets-at}
 use Rattle.network.proofs.Ranged.{Carried, Ranged}

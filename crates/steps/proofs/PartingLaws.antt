@@ -18,11 +18,12 @@ use Rattle.model.specs.Events.{calls, eventOf}
 use Rattle.model.proofs.Refusals.{pair-tells, down-limited, sending-7, sending-accepted}
 use Rattle.model.proofs.EventLaws.{call-2}
 use Rattle.model.proofs.Rows.{takeOut-length, takeOut-full, emptied-full, takeOut-never, emptied-never, removes-never}
-use Rattle.network.specs.declared.Row.{Row}
+use Rattle.rows.specs.declared.Row.{Row}
 use Rattle.network.specs.declared.Packet.{Packet}
 use Rattle.network.specs.declared.Air.{Air}
 use Rattle.network.specs.declared.Memory.{Memory}
-use Rattle.network.specs.View.{zeroPacket, rowOf, bodyOf, packetsOf, view}
+use Rattle.network.specs.View.{zeroPacket, bodyOf, packetsOf, view}
+use Rattle.rows.specs.View.{rowOf}
 use Rattle.network.proofs.ViewLaws.{body-error}
 use Rattle.network.proofs.Ranged.{Ranged}
 use Rattle.station.specs.Reacting.{sentBy}

@@ -18,7 +18,8 @@ use Rattle.model.proofs.Range.{Sized}
 use Rattle.model.proofs.EventLaws.{after-more}
 use Rattle.network.specs.declared.Packet.{Packet}
 use Rattle.network.specs.declared.Memory.{Memory}
-use Rattle.network.specs.View.{rowOf, recordOf, labelOf, view}
+use Rattle.network.specs.View.{recordOf, labelOf, view}
+use Rattle.rows.specs.View.{rowOf}
 use Rattle.network.proofs.ViewLaws.{Labels}
 use Rattle.network.proofs.Ranged.{Ranged, in-range-ranged}
 use Rattle.steps.specs.declared.Happened.{Happened}

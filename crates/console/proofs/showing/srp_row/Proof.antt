@@ -8,7 +8,7 @@ use borrow.Author.Needs.{needs}
 use Rattle.base.proofs.Booleans.{was-true, was-false}
 use Rattle.base.specs.Results.{accepted}
 use Rattle.model.specs.Memory.{Row, place}
-use Rattle.network.specs.View.{rowOf}
+use Rattle.rows.specs.View.{rowOf}
 use Rattle.layout.specs.Places.{layoutLength, rowsAt}
 use Rattle.layout.specs.Stored.{storedRow, storedNetwork}
 use Rattle.layout.specs.Written.{rowBytes}

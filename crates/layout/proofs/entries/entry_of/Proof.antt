@@ -5,7 +5,7 @@ use borrow.Author.Needs.{needs}
 use borrow.Author.Tests.{le-ltb}
 use Rattle.base.proofs.Loops.{tabulate-at, tabulate-or}
 use Rattle.model.specs.Memory.{zeroLabel}
-use Rattle.network.specs.View.{entryOf, rowOf}
+use Rattle.rows.specs.View.{entryOf, rowOf}
 use Rattle.layout.specs.Written.{zeroSuccessor}
 use Rattle.layout.proofs.entries.entry_of.Statement.{statement}
 use Rattle.layout.proofs.entries.entry_of.Tie as tie

@@ -1,7 +1,7 @@
 -- `entries::put_entry` meets its contract: the station, and then its label.
 use mathlib.Core.Path.{_∙_}
 use borrow.Author.Needs.{needs}
-use Rattle.network.specs.View.{successor}
+use Rattle.rows.specs.View.{successor}
 use Rattle.layout.proofs.EntryLaws.{successor-put}
 use Rattle.layout.proofs.entries.put_entry.Statement.{statement}
 use Rattle.layout.proofs.entries.put_entry.Tie as tie

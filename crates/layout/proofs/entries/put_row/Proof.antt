@@ -6,12 +6,12 @@ use lib.ListN.{getD}
 use native.Mathlib.Omega.{arith}
 use borrow.Author.Needs.{needs}
 use Rattle.base.specs.Lists.{tabulate}
-use Rattle.network.proofs.Bounds.{RowLengths, row-lengths}
+use Rattle.rows.proofs.Bounds.{RowLengths, row-lengths}
 use Rattle.codec.proofs.ByteLaws.{sets-next}
 use Rattle.model.specs.Memory.{Successor, rowLimit}
-use Rattle.network.specs.declared.Row.{Row}
-use Rattle.network.specs.View.{rowOf}
-use Rattle.network.proofs.RowLaws.{row-length}
+use Rattle.rows.specs.declared.Row.{Row}
+use Rattle.rows.specs.View.{rowOf}
+use Rattle.rows.proofs.RowLaws.{row-length}
 use Rattle.layout.specs.Written.{padded, zeroSuccessor, successorBytes, rowBytes}
 use Rattle.layout.specs.Fits.{LabelFits}
 use Rattle.layout.proofs.EntryLaws.{successor-wide, row-past}

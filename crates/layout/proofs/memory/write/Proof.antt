@@ -10,7 +10,8 @@ use Rattle.label.specs.declared.Label.{Label}
 use Rattle.codec.proofs.ByteLaws.{sets-over}
 use Rattle.model.specs.Memory as model
 use Rattle.network.specs.declared.Memory.{Memory}
-use Rattle.network.specs.View.{zeroRow, zeroRecord, rowOf, recordOf, labelOf, view}
+use Rattle.network.specs.View.{zeroRecord, recordOf, labelOf, view}
+use Rattle.rows.specs.View.{zeroRow, rowOf}
 use Rattle.layout.specs.Places.{layoutLength}
 use Rattle.layout.specs.Written.{networkBytes}
 use Rattle.layout.specs.Fits.{LabelFits, NetworkFits}

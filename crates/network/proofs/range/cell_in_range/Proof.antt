@@ -6,7 +6,7 @@ use borrow.Author.Needs.{needs}
 use Rattle.base.proofs.Booleans.{not-was-true, not-was-false}
 use Rattle.label.specs.Label.{inRange}
 use Rattle.model.specs.Memory.{rowInRange, cellInRange}
-use Rattle.network.specs.View.{rowOf}
+use Rattle.rows.specs.View.{rowOf}
 use Rattle.network.proofs.range.cell_in_range.Statement.{statement}
 use Rattle.network.proofs.range.cell_in_range.Tie as tie
 

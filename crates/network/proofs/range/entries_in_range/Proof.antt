@@ -8,7 +8,7 @@ use Rattle.base.specs.Lists.{allBelow}
 use Rattle.base.proofs.Booleans.{not-was-true, not-was-false}
 use Rattle.base.proofs.Loops.{all-none, all-more, all-ends, all-broken, all-tabulate}
 use Rattle.model.specs.Memory.{successorInRange}
-use Rattle.network.specs.View.{entryOf, rowOf}
+use Rattle.rows.specs.View.{entryOf, rowOf}
 use Rattle.network.proofs.range.entries_in_range.Statement.{statement}
 use Rattle.network.proofs.range.entries_in_range.Tie as tie
 

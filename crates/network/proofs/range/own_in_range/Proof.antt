@@ -2,7 +2,7 @@
 use borrow.Author.Tests.{eq-eqb, ne-eqb}
 use Rattle.base.proofs.Loops.{tabulate-empty}
 use Rattle.model.specs.Memory.{ownInRange}
-use Rattle.network.specs.View.{rowOf}
+use Rattle.rows.specs.View.{rowOf}
 use Rattle.network.proofs.range.own_in_range.Statement.{statement}
 use Rattle.network.proofs.range.own_in_range.Tie as tie
 

@@ -4,7 +4,7 @@ use borrow.Author.Needs.{needs}
 use Rattle.base.proofs.Booleans.{not-was-true, not-was-false}
 use Rattle.base.proofs.Loops.{tabulate-length}
 use Rattle.model.specs.Memory.{rowInRange}
-use Rattle.network.specs.View.{rowOf}
+use Rattle.rows.specs.View.{rowOf}
 use Rattle.network.proofs.range.row_in_range.Statement.{statement}
 use Rattle.network.proofs.range.row_in_range.Tie as tie
 

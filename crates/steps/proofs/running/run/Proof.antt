@@ -13,9 +13,10 @@ use borrow.Author.Tests.{eq-eqb, eqb-true, ltb-true, ltb-false}
 use Rattle.base.specs.Choice.{if_then_else_}
 use Rattle.model.specs.Memory.{names, rowIn, rowAt, rowLimit, place, memoryInRange, airLimit}
 use Rattle.model.specs.Calls.{takeOut, bit, hopLimit, follow}
-use Rattle.network.specs.declared.Row.{Row}
+use Rattle.rows.specs.declared.Row.{Row}
 use Rattle.network.specs.declared.Memory.{Memory}
-use Rattle.network.specs.View.{zeroPacket, zeroRow, rowOf, labelOf, view}
+use Rattle.network.specs.View.{zeroPacket, labelOf, view}
+use Rattle.rows.specs.View.{zeroRow, rowOf}
 use Rattle.network.proofs.ViewLaws.{row-at}
 use Rattle.network.proofs.Bounds.{memory-lengths, array-length}
 use Rattle.network.proofs.Ranged.{Ranged}

@@ -1,0 +1,90 @@
+-- `filtered` meets its contract: after k turns the new row has those of the first k entries that stay.
+use Prim.Native.Nat.{_-_, _≤_}
+use mathlib.Core.Path.{_≡_, refl, sym, ap, _∙_}
+use mathlib.Core.List.{_++_, _∷_, []}
+use native.Mathlib.Omega.{arith}
+use borrow.Author.Needs.{needs}
+use Rattle.base.specs.Lists.{keep, tabulate}
+use Rattle.base.proofs.Booleans.{cases}
+use Rattle.base.proofs.Loops.{keep-yes, keep-no}
+use Rattle.model.specs.Memory as model
+use Rattle.rows.specs.View.{entryOf, rowOf, keeps}
+use Rattle.rows.proofs.RowLaws.{filtered-short}
+use Rattle.rows.proofs.filtered.Statement.{statement}
+use Rattle.rows.proofs.filtered.Tie as tie
+
+abbrev Inv-loop : tie.InvT-loop
+Inv-loop test row count next₀ k₀ next k = (k ≤ count) × (rowOf next ≡ keep (keeps test) (tabulate k (entryOf row)))
+
+abbrev μ-loop : tie.MeasureT-loop
+μ-loop test row count next₀ k₀ next k = count - k
+
+cast-count : tie.Need-cast-count Inv-loop μ-loop
+cast-count c = search needs
+
+loop-holds : tie.Need-loop-holds Inv-loop μ-loop
+unfolding rowOf tabulate keep
+loop-holds c = (omega arith, refl)
+
+element-copy-out-station : tie.Need-element-copy-out-station Inv-loop μ-loop
+element-copy-out-station c = search needs
+
+mul-label : tie.Need-mul-label Inv-loop μ-loop
+mul-label c = search needs
+
+element-copy-out-label : tie.Need-element-copy-out-label Inv-loop μ-loop
+element-copy-out-label c = search needs
+
+keeps-requires : tie.Need-keeps-requires Inv-loop μ-loop
+keeps-requires c κs = search needs
+
+push-requires : tie.Need-push-requires Inv-loop μ-loop
+push-requires c κs =
+    omega (arith, filtered-short _ _ _ _ (c .before .before .before .before .before .loop .inv .1))
+
+add-k : tie.Need-add-k Inv-loop μ-loop
+add-k c = search needs
+
+loop-less : tie.Need-loop-less Inv-loop μ-loop
+loop-less c = search needs
+
+loop-again : tie.Need-loop-again Inv-loop μ-loop
+unfolding entryOf
+loop-again c =
+    let args = c .before .before .before .before .before .before .args in
+    let at = c .before .before .before .before .before .loop in
+    let e = entryOf (args .t1) (at .k) in
+    cases
+    (c .if1 .came)
+    (λ w. (
+      omega arith,
+      ap rowOf (w .2) ∙ w .1 .ensures ∙ ap (λ (r : model.Row). r ++ (e ∷ [])) (at .inv .1)
+          ∙ sym (keep-yes (keeps (args .test)) (at .k) (entryOf (args .t1)) (sym (c .before .keeps .ensures) ∙ w .0 .taken)),
+    ))
+    (λ w. (
+      omega arith,
+      ap rowOf (w .1) ∙ at .inv .1
+          ∙ sym (keep-no (keeps (args .test)) (at .k) (entryOf (args .t1)) (sym (c .before .keeps .ensures) ∙ w .0 .left)),
+    ))
+
+returns : tie.Need-returns Inv-loop μ-loop
+unfolding rowOf
+returns c = let e : c .before .loop .k ≡ c .before .before .args .t1 .count = omega arith in rw e at (c .before .loop .inv .1)
+
+pub filtered-spec : {M : Type 1} → statement M
+filtered-spec =
+    tie.close
+    (tie.spec
+    Inv-loop
+    μ-loop
+    cast-count
+    loop-holds
+    element-copy-out-station
+    mul-label
+    element-copy-out-label
+    keeps-requires
+    push-requires
+    add-k
+    loop-less
+    loop-again
+    returns)
