@@ -29,12 +29,12 @@ use Rattle.steps.specs.Happens.{happened, Happens}
 use Rattle.steps.proofs.RunLaws.{airing}
 use Rattle.steps.proofs.ArmLaws.{Tested, known, passes, happens-accepted, happens-7, both-below}
 
-module _ (memory : Memory) (packets : List Packet) (count kind a b r : ℕ) (h : Tested memory packets count kind a b r) (zero : r ≡ 0) where
+module _ {memory : Memory} {packets : List Packet} {count kind a b r : ℕ} (h : Tested memory packets count kind a b r) (zero : r ≡ 0) where
   abbrev m : Memory
   m = airing memory packets count
 
   abbrev ranged : Ranged m
-  ranged = known memory packets count kind a b r h
+  ranged = known h
 
   -- Solicit: a's request p, with its label l for b, to each up neighbour.
   module _ (e : kind ≡ 3) (cell : ℕ) (l : Label) (p : Packet) (at : cell ≡ place (a % 16) (b % 16)) (own : l ≡ labelOf (memory .s) (memory .m) (memory .d) cell)
@@ -43,7 +43,7 @@ module _ (memory : Memory) (packets : List Packet) (count kind a b r : ℕ) (h :
     sent = sentBy 2 (memory .links) (memory .n) (a % 16) p
 
     is : (eventOf kind a b ≡ calls (Solicit a b)) × Passes (Solicit a b) (view m)
-    is = passes memory packets count kind a b r h zero (Solicit a b) (λ q. omega arith) (call-3 kind a b e)
+    is = passes h zero (Solicit a b) (λ q. omega arith) (call-3 kind a b e)
 
     limited-is : step (Solicit a b) (view m) ≡ limited (solicit a b (view m))
     unfolding Passes
@@ -51,7 +51,7 @@ module _ (memory : Memory) (packets : List Packet) (count kind a b r : ℕ) (h :
 
     below : (a < 16) × (b < 16) × (a ≢ b) × (a % 16 ≡ a) × (b % 16 ≡ b)
     unfolding Passes
-    below = both-below memory packets count kind a b r h zero (is .1 .0)
+    below = both-below h zero (is .1 .0)
 
     -- The network in which a seeks b, and what is sent in it.
     abbrev seeking : Network
@@ -64,7 +64,7 @@ module _ (memory : Memory) (packets : List Packet) (count kind a b r : ℕ) (h :
     pub solicit-7 : airLimit < count + length sent → Happens m (eventOf kind a b) (happened m 7 0 0)
     unfolding setActives setSoughts setNumbers view
     solicit-7 full =
-        happens-7 memory packets count kind a b r h zero (Solicit a b) (is .0)
+        happens-7 h zero (Solicit a b) (is .0)
         (limited-is ∙ ap limited sends ∙ sending-7 0 sent seeking (rw (packets-count packets count) full))
 
     pub solicit-happens : (packets′ : List Packet) → count + length sent ≤ airLimit → packetsOf packets′ (count + length sent) ≡ packetsOf packets count ++ sent
@@ -83,7 +83,7 @@ module _ (memory : Memory) (packets : List Packet) (count kind a b r : ℕ) (h :
         }) 0 (length sent) 0)
     unfolding setActives setSoughts setNumbers view sending send setAir
     solicit-happens packets′ room q =
-        happens-accepted memory packets count kind a b r h zero (Solicit a b) (is .0) _ 0 (length sent) (sending 0 sent seeking)
+        happens-accepted h zero (Solicit a b) (is .0) _ 0 (length sent) (sending 0 sent seeking)
         (limited-is ∙ ap limited sends ∙ sending-accepted 0 sent seeking (rw (packets-count packets count) room))
         (rw (q, below .3, below .4, map-set (λ (k : RequestNumber). k .0) (memory .numbers)))
 
@@ -94,20 +94,20 @@ module _ (memory : Memory) (packets : List Packet) (count kind a b r : ℕ) (h :
 
   pub lose-there : kind ≡ 7 → (a < count) × (a % 128 ≡ a)
   unfolding Passes
-  lose-there e = packet-there (passes memory packets count kind a b r h zero (Lose a) (λ q. omega arith) (call-7 kind a b e) .1)
+  lose-there e = packet-there (passes h zero (Lose a) (λ q. omega arith) (call-7 kind a b e) .1)
 
   pub lose-happens : kind ≡ 7 → (packets′ : List Packet) → packetsOf packets′ (count - 1) ≡ take (a % 128) (packetsOf packets count) ++ drop (suc (a % 128)) (packetsOf packets count)
       → Happens m (eventOf kind a b) (happened (airing memory packets′ (count - 1)) 0 0 0)
   unfolding Passes removePacket view setAir
   lose-happens e packets′ f =
-      let is = passes memory packets count kind a b r h zero (Lose a) (λ q. omega arith) (call-7 kind a b e) in
+      let is = passes h zero (Lose a) (λ q. omega arith) (call-7 kind a b e) in
       let w = packet-there (is .1) in
-      happens-accepted memory packets count kind a b r h zero (Lose a) (is .0) (airing memory packets′ (count - 1)) 0 0 _ (lose-accepted (view m) (h .ranged) a (is .1)) (rw (f, w .1))
+      happens-accepted h zero (Lose a) (is .0) (airing memory packets′ (count - 1)) 0 0 _ (lose-accepted (view m) (h .ranged) a (is .1)) (rw (f, w .1))
 
   -- Duplicate: packet a last once more.
   module _ (e : kind ≡ 8) where
     doubles : (eventOf kind a b ≡ calls (Duplicate a)) × Passes (Duplicate a) (view m)
-    doubles = passes memory packets count kind a b r h zero (Duplicate a) (λ q. omega arith) (call-8 kind a b e)
+    doubles = passes h zero (Duplicate a) (λ q. omega arith) (call-8 kind a b e)
 
     there : (a < count) × (a % 128 ≡ a)
     unfolding Passes
@@ -127,13 +127,13 @@ module _ (memory : Memory) (packets : List Packet) (count kind a b r : ℕ) (h :
     pub duplicate-7 : airLimit < count + 1 → Happens m (eventOf kind a b) (happened m 7 0 0)
     unfolding limited
     duplicate-7 full =
-        happens-7 memory packets count kind a b r h zero (Duplicate a) (doubles .0)
+        happens-7 h zero (Duplicate a) (doubles .0)
         (limited-doubled ∙ refuse-holds 7 _ _ (lt-ltb airLimit (length (doubled .net .air)) (omega (arith, doubled-length))))
 
     pub duplicate-happens : (packets′ : List Packet) → count + 1 ≤ airLimit → packetsOf packets′ (count + 1) ≡ packetsOf packets count ++ (packetOf (getD packets (a % 128) zeroPacket) ∷ [])
         → Happens m (eventOf kind a b) (happened (airing memory packets′ (count + 1)) 0 0 0)
     unfolding limited send setAir view
     duplicate-happens packets′ room f =
-        happens-accepted memory packets count kind a b r h zero (Duplicate a) (doubles .0) (airing memory packets′ (count + 1)) 0 0 _
+        happens-accepted h zero (Duplicate a) (doubles .0) (airing memory packets′ (count + 1)) 0 0 _
         (limited-doubled ∙ refuse-passes 7 _ _ (le-ltb airLimit (length (doubled .net .air)) (omega (arith, doubled-length))))
         (rw (f, there .1, packets-at packets count a model.zeroPacket (there .0)))

@@ -69,9 +69,9 @@ class-trace kind carried = go (eqb kind 1 || eqb kind 4 || eqb kind 5) (eqb kind
     go false false q true e = absurd (omega arith)
     go false false q false e = absurd (omega arith)
 
-pub class-cut : (kind carried : ℕ) → classOf kind carried ≡ 2 → (kind ≡ 2) ⊎ ((kind ≡ 6) × (carried ≡ 3))
+pub class-cut : {kind carried : ℕ} → classOf kind carried ≡ 2 → (kind ≡ 2) ⊎ ((kind ≡ 6) × (carried ≡ 3))
 unfolding classOf
-class-cut kind carried = go (eqb kind 1 || eqb kind 4 || eqb kind 5) (eqb kind 9) (eqb kind 2) refl (eqb kind 6) refl (eqb carried 3) refl
+class-cut {kind} {carried} = go (eqb kind 1 || eqb kind 4 || eqb kind 5) (eqb kind 9) (eqb kind 2) refl (eqb kind 6) refl (eqb carried 3) refl
   where
     go : (x y z : Bool) → eqb kind 2 ≡ z → (u : Bool) → eqb kind 6 ≡ u → (v : Bool) → eqb carried 3 ≡ v
         → (if_then_else_ {A = ℕ} x 0 (if y then 1 else if z || u && v then 2 else 3)) ≡ 2 → (kind ≡ 2) ⊎ ((kind ≡ 6) × (carried ≡ 3))
@@ -83,11 +83,11 @@ class-cut kind carried = go (eqb kind 1 || eqb kind 4 || eqb kind 5) (eqb kind 9
     go false false false p false q v r e = absurd (omega arith)
 
 -- What is gathered where an event looks.
-pub seen : (memory : Memory) (packets : List Packet) (count kind a b : ℕ) (w : Spot) (pair : ℕ) → memoryInRange (view (airing memory packets count)) ≡ true → memory .n ≤ 16
+pub seen : (memory : Memory) (packets : List Packet) (count : ℕ) {kind a b : ℕ} (w : Spot) {pair : ℕ} → memoryInRange (view (airing memory packets count)) ≡ true → memory .n ≤ 16
     → (kind ≢ 6 → (w .station ≡ a % 16) × (w .destination ≡ b % 16) × (w .source ≡ 0)) → pair ≡ pairPlace (w .station) (w .destination)
     → Seen (view (airing memory packets count)) kind a b (memory .n) count (getD (memory .links) pair false) (getD (memory .active) (w .station) false) (getD (memory .numbers) (w .station) zeroNumber .0)
 unfolding view
-seen memory packets count kind a b w pair ranged high spot pair-is = record {
+seen memory packets count {kind} {a} {b} w {pair} ranged high spot pair-is = record {
   ranged = ranged;
   size = refl;
   packets = packets-count packets count;
@@ -108,12 +108,12 @@ pub record Tested (memory : Memory) (packets : List Packet) (count kind a b r : 
   pub ranged : memoryInRange (view (airing memory packets count)) ≡ true
   pub tests : Tests (view (airing memory packets count)) (eventOf kind a b) r
 
-module _ (memory : Memory) (packets : List Packet) (count kind a b r : ℕ) (h : Tested memory packets count kind a b r) where
+module _ {memory : Memory} {packets : List Packet} {count kind a b r : ℕ} (h : Tested memory packets count kind a b r) where
   abbrev m : Memory
   m = airing memory packets count
 
   pub known : Ranged m
-  known = shape-ranged memory packets count (h .shape) (h .ranged)
+  known = shape-ranged count (h .shape) (h .ranged)
 
   -- Turned down.
   pub turned-down : r ≢ 0 → Happens m (eventOf kind a b) (happened m r 0 0)
@@ -151,7 +151,7 @@ module _ (memory : Memory) (packets : List Packet) (count kind a b r : ℕ) (h :
           → Happens m (eventOf kind a b) (happened next answer sent 0)
       happens-accepted next answer sent e s same =
           happens-call m (eventOf kind a b) c (done next answer sent) is
-          (called-accepted m c (done next answer sent) e (shape-sized memory packets count (h .shape)) s same)
+          (called-accepted m c (done next answer sent) e (shape-sized count (h .shape)) s same)
 
       pub happens-7 : step c (view m) ≡ refused 7 → Happens m (eventOf kind a b) (happened m 7 0 0)
       happens-7 s = happens-call m (eventOf kind a b) c (done m 7 0) is (called-refused m (step c (view m)) 7 s)
@@ -165,7 +165,7 @@ module _ (memory : Memory) (packets : List Packet) (count kind a b r : ℕ) (h :
 
     -- Up, Give up and Expire: all that one of them may change is written, changed or not.
     module _ (w : Spot) (spot : kind ≢ 6 → (w .station ≡ a % 16) × (w .destination ≡ b % 16) × (w .source ≡ 0))
-        (pair cell : ℕ) (row : Row) (pair-is : pair ≡ pairPlace (w .station) (w .destination)) (cell-is : cell ≡ place (w .station) (w .destination))
+        {pair cell : ℕ} {row : Row} (pair-is : pair ≡ pairPlace (w .station) (w .destination)) (cell-is : cell ≡ place (w .station) (w .destination))
         (row-is : row ≡ record { labels = getD (memory .rows) cell zeroRow .labels; stations = getD (memory .rows) cell zeroRow .stations; count = if eqb kind 5 then 0 else getD (memory .rows) cell zeroRow .count }) where
       abbrev light : Air → Memory
       light air = record {
@@ -182,8 +182,8 @@ module _ (memory : Memory) (packets : List Packet) (count kind a b r : ℕ) (h :
         n = memory .n;
       }
 
-      pub light-shape : (air : Air) → Shape (light air) packets
-      light-shape air = record {
+      pub light-shape : {air : Air} → Shape (light air) packets
+      light-shape = record {
         labels = h .shape .labels;
         rows-length = length-set (memory .rows) cell row ∙ h .shape .rows-length;
         records-length = h .shape .records-length;

@@ -77,7 +77,7 @@ pub record Looks (memory : Memory) (packets : List Packet) (count kind a b r : �
   pub slot-is : slot ≡ place (w .station) (w .source)
   pub label-is : l ≡ labelOf (memory .s) (memory .m) (memory .d) cell
 
-module _ (memory : Memory) (packets : List Packet) (count kind a b r : ℕ) (w : Spot) (cell slot : ℕ) (l : Label) (g : Looks memory packets count kind a b r w cell slot l) where
+module _ {memory : Memory} {packets : List Packet} {count kind a b r : ℕ} {w : Spot} {cell slot : ℕ} {l : Label} (g : Looks memory packets count kind a b r w cell slot l) where
   abbrev m : Memory
   m = airing memory packets count
 
@@ -95,15 +95,15 @@ module _ (memory : Memory) (packets : List Packet) (count kind a b r : ℕ) (w :
 
   pub which : (kind ≡ 3) ⊎ (((kind ≡ 6) × (p .kind ≢ 3)) ⊎ ((kind ≡ 7) ⊎ (kind ≡ 8)))
   which =
-      let k = event-kinds kind a b (is-event memory packets count kind a b r (g .tested) (g .zero-is)) in
+      let k = event-kinds kind a b (is-event (g .tested) (g .zero-is)) in
       class-other kind (p .kind) (g .other-0) (g .other-1) (g .other-2) (k .0) (k .1)
 
   -- The receiver of a request or a reply stands where it is looked for.
   receiver : (e : kind ≡ 6) → p .kind ≢ 3 → (w .station ≡ p .receiver) × (w .destination ≡ p .destination) × (w .source ≡ p .source)
   receiver e q =
       let s = g .packet-spot e in
-      let c = carried memory packets count kind a b r (g .tested) (g .zero-is) e in
-      let high = known memory packets count kind a b r (g .tested) .high in
+      let c = carried (g .tested) (g .zero-is) e in
+      let high = known (g .tested) .high in
       let head = c .head q in
       (omega (arith, s .0, c .receiver-below, high), omega (arith, s .1, head .destination-below, high), omega (arith, s .2, head .source-below, high))
 
@@ -111,8 +111,8 @@ module _ (memory : Memory) (packets : List Packet) (count kind a b r : ℕ) (w :
   pub unused : kind ≡ 3 → last .0 < maxU32
   unfolding Passes view
   unused e =
-      let is = passes memory packets count kind a b r (g .tested) (g .zero-is) (Solicit a b) (λ q. omega arith) (call-3 kind a b e) in
-      let below = both-below memory packets count kind a b r (g .tested) (g .zero-is) (is .1 .0) in
+      let is = passes (g .tested) (g .zero-is) (Solicit a b) (λ q. omega arith) (call-3 kind a b e) in
+      let below = both-below (g .tested) (g .zero-is) (is .1 .0) in
       rw (g .call-spot (λ q. omega arith) .0, below .3) (leb-false maxU32 _ (sym (ap (leb maxU32) (number-at (memory .numbers) a)) ∙ is .1 .2))
 
   pub arrived : kind ≡ 6 → (0 < p .kind) × (p .kind < 3) × Ready p held
@@ -121,18 +121,18 @@ module _ (memory : Memory) (packets : List Packet) (count kind a b r : ℕ) (w :
       go : (kind ≡ 3) ⊎ (((kind ≡ 6) × (p .kind ≢ 3)) ⊎ ((kind ≡ 7) ⊎ (kind ≡ 8))) → (0 < p .kind) × (p .kind < 3) × Ready p held
       go (inl x) = absurd (omega (arith, e))
       go (inr (inl x)) =
-          let c = carried memory packets count kind a b r (g .tested) (g .zero-is) e in
+          let c = carried (g .tested) (g .zero-is) e in
           let s = receiver e (x .1) in (
             c .kinds .0,
             omega (arith, c .kinds .1, x .1),
             rw (s .0)
-                (ready memory packets count kind a b r (g .tested) (g .zero-is) e (x .1) cell slot l (rw (s .0, s .1) at (g .cell-is)) (rw (s .0, s .2) at (g .slot-is)) (g .label-is)),
+                (ready (g .tested) (g .zero-is) e (x .1) cell slot l (rw (s .0, s .1) at (g .cell-is)) (rw (s .0, s .2) at (g .slot-is)) (g .label-is)),
           )
       go (inr (inr (inl x))) = absurd (omega (arith, e))
       go (inr (inr (inr x))) = absurd (omega (arith, e))
 
   -- What the call does there, by its kind.
-  module _ (c : Change) (does : (kind ≡ 3 → Solicits held (last .0) (w .station) (w .destination) c) × ((kind ≡ 6 → Reacts p held last sought (memory .links) c)
+  module _ {c : Change} (does : (kind ≡ 3 → Solicits held (last .0) (w .station) (w .destination) c) × ((kind ≡ 6 → Reacts p held last sought (memory .links) c)
       × ((kind ≡ 7 → Loses held last sought c) × (kind ≡ 8 → Doubles p held last sought c)))) where
     abbrev stays : List model.Packet
     stays = if c .drops then without (a % 128) (packetsOf packets count) else packetsOf packets count
@@ -141,7 +141,7 @@ module _ (memory : Memory) (packets : List Packet) (count kind a b r : ℕ) (w :
     sent = sentBy (c .scope) (memory .links) (memory .n) (w .station) (c .packet)
 
     -- The memory after it.
-    abbrev changed : Air → Memory
+    abbrev pub changed : Air → Memory
     changed air = record {
       s = set (memory .s) cell (c .holding .label .s .0);
       m = set (memory .m) cell (c .holding .label .m);
@@ -156,8 +156,8 @@ module _ (memory : Memory) (packets : List Packet) (count kind a b r : ℕ) (w :
       n = memory .n;
     }
 
-    pub changed-shape : (air : Air) (packets′ : List Packet) → length packets′ ≡ airLimit → Shape (changed air) packets′
-    changed-shape air packets′ long = let shape = g .tested .shape in record {
+    pub changed-shape : {air : Air} {packets′ : List Packet} → length packets′ ≡ airLimit → Shape (changed air) packets′
+    changed-shape long = let shape = g .tested .shape in record {
       labels = record {
         s-length = length-set (memory .s) cell _ ∙ shape .labels .s-length;
         m-length = length-set (memory .m) cell _ ∙ shape .labels .m-length;
@@ -183,8 +183,8 @@ module _ (memory : Memory) (packets : List Packet) (count kind a b r : ℕ) (w :
       where
         go : (kind ≡ 3) ⊎ (((kind ≡ 6) × (p .kind ≢ 3)) ⊎ ((kind ≡ 7) ⊎ (kind ≡ 8))) → a % 128 < count
         go (inl x) = absurd (clash d (does .0 x .drops-is))
-        go (inr (inl x)) = let there = arrives memory packets count kind a b r (g .tested) (g .zero-is) (x .0) in omega (arith, there)
-        go (inr (inr (inl x))) = let there = lose-there memory packets count kind a b r (g .tested) (g .zero-is) x in omega (arith, there)
+        go (inr (inl x)) = let there = arrives (g .tested) (g .zero-is) (x .0) in omega (arith, there)
+        go (inr (inr (inl x))) = let there = lose-there (g .tested) (g .zero-is) x in omega (arith, there)
         go (inr (inr (inr x))) = absurd (clash d (does .1 .1 .1 x .drops-is))
 
     stays-length : length stays ≡ (if c .drops then count - 1 else count)
@@ -202,7 +202,7 @@ module _ (memory : Memory) (packets : List Packet) (count kind a b r : ℕ) (w :
       solicit-full : Full
       solicit-full full =
           let so = does .0 e in
-          solicit-7 memory packets count kind a b r (g .tested) (g .zero-is) e cell l (c .packet) (rw (spots .0, spots .1) at (g .cell-is)) (g .label-is)
+          solicit-7 (g .tested) (g .zero-is) e cell l (c .packet) (rw (spots .0, spots .1) at (g .cell-is)) (g .label-is)
           (rw (spots .0, spots .1) at (so .body-is)) (rw (so .drops-is, so .scope-is, packets-count packets count, spots .0) at full)
 
       solicit-done : Done
@@ -210,7 +210,7 @@ module _ (memory : Memory) (packets : List Packet) (count kind a b r : ℕ) (w :
       solicit-done packets′ room f =
           let so = does .0 e in
           let law =
-          solicit-happens memory packets count kind a b r (g .tested) (g .zero-is) e cell l (c .packet) (rw (spots .0, spots .1) at (g .cell-is)) (g .label-is)
+          solicit-happens (g .tested) (g .zero-is) e cell l (c .packet) (rw (spots .0, spots .1) at (g .cell-is)) (g .label-is)
           (rw (spots .0, spots .1) at (so .body-is)) packets′ (rw (so .drops-is, so .scope-is, packets-count packets count, spots .0) at room)
           (rw (so .drops-is, so .scope-is, packets-count packets count, spots .0) at f) in
           rw (
@@ -242,17 +242,17 @@ module _ (memory : Memory) (packets : List Packet) (count kind a b r : ℕ) (w :
       react-full full =
           let re = does .1 .0 e in
           let s = at-receiver in
-          let there = arrives memory packets count kind a b r (g .tested) (g .zero-is) e in
-          reaction-7 memory packets count kind a b r (g .tested) (g .zero-is) e q cell slot l (rw (s .0, s .1) at (g .cell-is)) (rw (s .0, s .2) at (g .slot-is)) (g .label-is)
+          let there = arrives (g .tested) (g .zero-is) e in
+          reaction-7 (g .tested) (g .zero-is) e q cell slot l (rw (s .0, s .1) at (g .cell-is)) (rw (s .0, s .2) at (g .slot-is)) (g .label-is)
           (reaction c) (rw (s .0) at (re .reacted)) (rw (re .drops-is, there .1, without-length packets count a (there .0), s .0) at full)
 
       react-done : Done
       react-done packets′ room f =
           let re = does .1 .0 e in
           let s = at-receiver in
-          let there = arrives memory packets count kind a b r (g .tested) (g .zero-is) e in
+          let there = arrives (g .tested) (g .zero-is) e in
           let law =
-          reaction-happens memory packets count kind a b r (g .tested) (g .zero-is) e q cell slot l (rw (s .0, s .1) at (g .cell-is)) (rw (s .0, s .2) at (g .slot-is)) (g .label-is)
+          reaction-happens (g .tested) (g .zero-is) e q cell slot l (rw (s .0, s .1) at (g .cell-is)) (rw (s .0, s .2) at (g .slot-is)) (g .label-is)
           (reaction c) (rw (s .0) at (re .reacted)) packets′ (rw (re .drops-is, there .1, without-length packets count a (there .0), s .0) at room)
           (rw (re .drops-is, there .1, without-length packets count a (there .0), s .0) at f) in
           rw (e, re .number-is, re .sought-is, set-getD (memory .numbers) (w .station) zeroNumber, set-getD (memory .sought) (w .station) 0, re .drops-is, there .1, without-length packets count a (there .0), s .0)
@@ -283,11 +283,11 @@ module _ (memory : Memory) (packets : List Packet) (count kind a b r : ℕ) (w :
       unfolding sentBy
       lose-done packets′ room f =
           let lo = does .1 .1 .0 e in
-          let there = lose-there memory packets count kind a b r (g .tested) (g .zero-is) e in
+          let there = lose-there (g .tested) (g .zero-is) e in
           let gone : a % 128 < count = omega (arith, there) in
           let zero-more : count - 1 + 0 ≡ count - 1 = omega arith in
           let law =
-          lose-happens memory packets count kind a b r (g .tested) (g .zero-is) e packets′
+          lose-happens (g .tested) (g .zero-is) e packets′
           (rw (lo .drops-is, lo .scope-is, without-length packets count (a % 128) gone, zero-more) at f ∙ append-nil _) in
           rw (e, unchanged (lo .holding-is) (lo .number-is) (lo .sought-is) (record { packets = packets′; count = length stays + length sent }), lo .answer-is, lo .drops-is, lo .scope-is, without-length packets count (a % 128) gone, zero-more) (rw e at law)
 
@@ -295,9 +295,9 @@ module _ (memory : Memory) (packets : List Packet) (count kind a b r : ℕ) (w :
       unfolding sentBy
       lose-full full =
           let lo = does .1 .1 .0 e in
-          let there = lose-there memory packets count kind a b r (g .tested) (g .zero-is) e in
+          let there = lose-there (g .tested) (g .zero-is) e in
           let more : airLimit < count - 1 + 0 = rw (lo .drops-is, lo .scope-is, without-length packets count (a % 128) (omega (arith, there))) at full in
-          absurd (omega (arith, more, known memory packets count kind a b r (g .tested) .air-count))
+          absurd (omega (arith, more, known (g .tested) .air-count))
 
     -- Duplicate.
     module _ (e : kind ≡ 8) where
@@ -305,19 +305,19 @@ module _ (memory : Memory) (packets : List Packet) (count kind a b r : ℕ) (w :
       unfolding sentBy
       double-full full =
           let du = does .1 .1 .1 e in
-          duplicate-7 memory packets count kind a b r (g .tested) (g .zero-is) e (rw (du .drops-is, du .scope-is, packets-count packets count) at full)
+          duplicate-7 (g .tested) (g .zero-is) e (rw (du .drops-is, du .scope-is, packets-count packets count) at full)
 
       double-done : Done
       unfolding sentBy
       double-done packets′ room f =
           let du = does .1 .1 .1 e in
           let law =
-          duplicate-happens memory packets count kind a b r (g .tested) (g .zero-is) e packets′ (rw (du .drops-is, du .scope-is, packets-count packets count) at room)
+          duplicate-happens (g .tested) (g .zero-is) e packets′ (rw (du .drops-is, du .scope-is, packets-count packets count) at room)
           (rw (du .drops-is, du .scope-is, du .packet-is, packets-count packets count) at f) in
           rw (e, unchanged (du .holding-is) (du .number-is) (du .sought-is) (record { packets = packets′; count = length stays + length sent }), du .answer-is, du .drops-is, du .scope-is, packets-count packets count) (rw e at law)
 
     -- With the numbers that the code counted.
-    module _ (stay number : ℕ) (x : stay ≡ (if c .drops then count - 1 else count)) (y : number ≡ length sent) where
+    module _ {stay number : ℕ} (x : stay ≡ (if c .drops then count - 1 else count)) (y : number ≡ length sent) where
       staying : stay ≡ length stays
       staying = x ∙ sym stays-length
 
@@ -334,11 +334,11 @@ module _ (memory : Memory) (packets : List Packet) (count kind a b r : ℕ) (w :
           go (inr (inr (inr e))) = double-full e full
 
       -- What `exchange` gives where packet k goes, and what `transmit` gives where all stay.
-      abbrev Moved : List Packet → Type 0
-      Moved packets′ = ((c .drops ≡ true) × (packetsOf packets′ (stay + length sent) ≡ without (a % 128) (packetsOf packets (stay + 1)) ++ sent))
+      abbrev pub ChangeMoved : List Packet → Type 0
+      ChangeMoved packets′ = ((c .drops ≡ true) × (packetsOf packets′ (stay + length sent) ≡ without (a % 128) (packetsOf packets (stay + 1)) ++ sent))
           ⊎ ((c .drops ≡ false) × (packetsOf packets′ (stay + length sent) ≡ packetsOf packets stay ++ sent))
 
-      moved : (packets′ : List Packet) → Moved packets′ → packetsOf packets′ (length stays + length sent) ≡ stays ++ sent
+      moved : (packets′ : List Packet) → ChangeMoved packets′ → packetsOf packets′ (length stays + length sent) ≡ stays ++ sent
       moved packets′ (inl (d, e)) =
           let s : stay ≡ count - 1 = x ∙ rw d in
           rw d (exchanged packets count (a % 128) (goes d) packets′ sent (rw s at e))
@@ -346,9 +346,9 @@ module _ (memory : Memory) (packets : List Packet) (count kind a b r : ℕ) (w :
           let s : stay ≡ count = x ∙ rw d in
           rw (d, packets-count packets count) (rw s at e)
 
-      pub change-happens : (tells : ℕ) → tells ≡ (if eqb kind 8 then 0 else number) → (packets′ : List Packet) → stay + number ≤ airLimit → Moved packets′
+      pub change-happens : {tells : ℕ} → tells ≡ (if eqb kind 8 then 0 else number) → (packets′ : List Packet) → ChangeMoved packets′ → stay + number ≤ airLimit
           → Happens m (eventOf kind a b) (happened (changed (record { packets = packets′; count = stay + number })) (c .answer) tells 0)
-      change-happens tells z packets′ few f = rw (z, staying, y) (go which)
+      change-happens {tells} z packets′ f few = rw (z, staying, y) (go which)
         where
           room : length stays + length sent ≤ airLimit
           room = omega (arith, few, staying, y)

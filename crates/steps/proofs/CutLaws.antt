@@ -38,25 +38,25 @@ or-pairs false true true d = refl
 or-pairs false true false d = refl
 or-pairs false false c d = refl
 
-module _ (cut : Cut) (rows : List model.Row) where
+module _ {cut : Cut} {rows : List model.Row} where
   pub lost-none : Lost cut rows 0 (record { emptied = 0; others = 0; removed = false })
   unfolding emptied removes someBelow
   lost-none = record { emptied-is = refl; others-are = refl; removed-is = refl }
 
-  module _ (t : ℕ) (losses : Losses) (k : Lost cut rows t losses) where
+  module _ {t : ℕ} {losses : Losses} (k : Lost cut rows t losses) where
     pub lost-below : (losses .emptied < 2 ^ t) × (losses .others < 2 ^ t)
     lost-below = (
       rw (k .emptied-is) (emptied-below (bit (cut .mask)) (names (cut .second)) (cut .first) t rows),
       rw (k .others-are) (emptied-below (bit (cut .others)) (names (cut .first)) (cut .second) t rows),
     )
 
-    pub lost-more : (next : Losses) (row other : model.Row) → row ≡ rowIn rows (cut .first) t → other ≡ rowIn rows (cut .second) t
+    pub lost-more : {next : Losses} {row other : model.Row} → row ≡ rowIn rows (cut .first) t → other ≡ rowIn rows (cut .second) t
         → next .emptied ≡ losses .emptied + (if bit (cut .mask) t && empties (names (cut .second)) row then 2 ^ t else 0)
         → next .others ≡ losses .others + (if bit (cut .others) t && empties (names (cut .first)) other then 2 ^ t else 0)
         → next .removed ≡ losses .removed || bit (cut .mask) t && someIn (names (cut .second)) row || bit (cut .others) t && someIn (names (cut .first)) other
         → Lost cut rows (t + 1) next
     unfolding emptied removes someBelow
-    lost-more next row other p q e f g = record {
+    lost-more p q e f g = record {
       emptied-is = rw add-one (e ∙ rw (k .emptied-is, p));
       others-are = rw add-one (f ∙ rw (k .others-are, q));
       removed-is = rw add-one (g ∙ rw (k .removed-is, p, q) (or-pairs (removes (bit (cut .mask)) (names (cut .second)) (cut .first) t rows) (removes (bit (cut .others)) (names (cut .first)) (cut .second) t rows)
@@ -69,12 +69,12 @@ pub record CutRows (cut : Cut) (before : List Row) (u : ℕ) (rows : List Row) :
   pub mine : (t : ℕ) → u ≤ t → t < 16 → getD rows (place (cut .first) t) zeroRow ≡ getD before (place (cut .first) t) zeroRow
   pub theirs : (t : ℕ) → u ≤ t → t < 16 → getD rows (place (cut .second) t) zeroRow ≡ getD before (place (cut .second) t) zeroRow
 
-module _ (cut : Cut) (apart : cut .first ≢ cut .second) (before : List Row) where
+module _ {cut : Cut} (apart : cut .first ≢ cut .second) {before : List Row} where
   pub cut-none : CutRows cut before 0 before
   unfolding takeOut
   cut-none = record { taken = refl; mine = λ t h l. refl; theirs = λ t h l. refl }
 
-  module _ (u : ℕ) (small : u < 16) (rows : List Row) (k : CutRows cut before u rows) where
+  module _ {u : ℕ} (small : u < 16) {rows : List Row} (k : CutRows cut before u rows) where
     pub cut-more : (row other : Row) → rowOf row ≡ cutRow (bit (cut .mask) u) (names (cut .second)) (rowOf (getD before (place (cut .first) u) zeroRow))
         → rowOf other ≡ cutRow (bit (cut .others) u) (names (cut .first)) (rowOf (getD before (place (cut .second) u) zeroRow))
         → CutRows cut before (u + 1) (set (set rows (place (cut .first) u) row) (place (cut .second) u) other)
@@ -110,10 +110,10 @@ module _ (cut : Cut) (apart : cut .first ≢ cut .second) (before : List Row) wh
             )
 
   -- All of them, also where no turn was made since nothing is removed.
-  pub cut-all : (n u : ℕ) (losses : Losses) (rows : List Row) → Lost cut (map rowOf before) n losses → u ≡ (if losses .removed then n else 0) → CutRows cut before u rows
+  pub cut-all : {n u : ℕ} {losses : Losses} {rows : List Row} → Lost cut (map rowOf before) n losses → u ≡ (if losses .removed then n else 0) → CutRows cut before u rows
       → map rowOf rows ≡ takeOut (bit (cut .others)) (names (cut .first)) (cut .second) n (takeOut (bit (cut .mask)) (names (cut .second)) (cut .first) n (map rowOf before))
   unfolding takeOut
-  cut-all n u losses rows lost e k = go (losses .removed) refl e
+  cut-all {n} {u} {losses} {rows} lost e k = go (losses .removed) refl e
     where
       all : List model.Row
       all = map rowOf before

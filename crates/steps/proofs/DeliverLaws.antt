@@ -33,19 +33,19 @@ use Rattle.steps.proofs.RunLaws.{airing, shape-sized}
 use Rattle.steps.proofs.ArmLaws.{Tested, known, passes, happens-accepted, happens-7}
 use Rattle.steps.proofs.AirLaws.{packet-there}
 
-module _ (memory : Memory) (packets : List Packet) (count kind a b r : ℕ) (h : Tested memory packets count kind a b r) (zero : r ≡ 0) (e : kind ≡ 6) where
+module _ {memory : Memory} {packets : List Packet} {count kind a b r : ℕ} (h : Tested memory packets count kind a b r) (zero : r ≡ 0) (e : kind ≡ 6) where
   abbrev m : Memory
   m = airing memory packets count
 
   abbrev ranged : Ranged m
-  ranged = known memory packets count kind a b r h
+  ranged = known h
 
   delivers : (eventOf kind a b ≡ calls (Deliver a)) × Passes (Deliver a) (view m)
-  delivers = passes memory packets count kind a b r h zero (Deliver a) (λ q. omega arith) (call-6 kind a b e)
+  delivers = passes h zero (Deliver a) (λ q. omega arith) (call-6 kind a b e)
 
   pub arrives : (a < count) × (a % 128 ≡ a)
   unfolding Passes
-  arrives = packet-there memory packets count kind a b r h zero (delivers .1)
+  arrives = packet-there h zero (delivers .1)
 
   abbrev p : Packet
   p = getD packets (a % 128) zeroPacket
@@ -70,11 +70,11 @@ module _ (memory : Memory) (packets : List Packet) (count kind a b r : ℕ) (h :
       ∙ ap limited (rw (packets-at packets count a model.zeroPacket (arrives .0), arrives .1))
 
   pub deliver-7 : step (Deliver a) (view m) ≡ refused 7 → Happens m (eventOf kind a b) (happened m 7 0 0)
-  deliver-7 s = happens-7 memory packets count kind a b r h zero (Deliver a) (delivers .0) s
+  deliver-7 s = happens-7 h zero (Deliver a) (delivers .0) s
 
   pub deliver-accepted : (next : Memory) (answer sent : ℕ) (f : Effect) → step (Deliver a) (view m) ≡ accepted f → effect answer sent (view next) ≡ f
       → Happens m (eventOf kind a b) (happened next answer sent 0)
-  deliver-accepted next answer sent f s same = happens-accepted memory packets count kind a b r h zero (Deliver a) (delivers .0) next answer sent f s same
+  deliver-accepted next answer sent f s same = happens-accepted h zero (Deliver a) (delivers .0) next answer sent f s same
 
   -- A request or a reply, and what its receiver holds.
   module _ (q : p .kind ≢ 3) (cell slot : ℕ) (l : Label) (cell-is : cell ≡ place (p .receiver) (p .destination)) (slot-is : slot ≡ place (p .receiver) (p .source))
@@ -108,7 +108,7 @@ module _ (memory : Memory) (packets : List Packet) (count kind a b r : ℕ) (h :
     holds : Holds flying p held
     unfolding view setAir
     holds =
-        let sizes = shape-sized memory packets count (h .shape) in
+        let sizes = shape-sized count (h .shape) in
         record {
           inside = record {
             receiver-below = inside .0;

@@ -1,6 +1,6 @@
 -- Down, and an error delivered, as a turn of the run makes them.
 use Prim.Native.Nat.{ℕ, zero, _+_, _-_, _%_, _≤_, _<_}
-use mathlib.Core.Path.{_≡_, sym, ap, _∙_}
+use mathlib.Core.Path.{_≡_, sym, ap, subst, _∙_}
 use mathlib.Core.Logic.{_≢_, _⊎_, inl, inr}
 use mathlib.Core.Bool.{Bool, false, not, _&&_, or-false, and-false, and-true}
 use mathlib.Core.List.{List, [], _++_, map, append-nil, append-assoc}
@@ -20,7 +20,6 @@ use Rattle.model.proofs.EventLaws.{call-2}
 use Rattle.model.proofs.Rows.{takeOut-length, takeOut-full, emptied-full, takeOut-never, emptied-never, removes-never}
 use Rattle.rows.specs.declared.Row.{Row}
 use Rattle.network.specs.declared.Packet.{Packet}
-use Rattle.network.specs.declared.Air.{Air}
 use Rattle.network.specs.declared.Memory.{Memory}
 use Rattle.network.specs.View.{zeroPacket, bodyOf, packetsOf, view}
 use Rattle.rows.specs.View.{rowOf}
@@ -39,32 +38,66 @@ use Rattle.steps.proofs.ArmLaws.{Tested, known, passes, happens-accepte
 use Rattle.steps.proofs.DeliverLaws.{arrives, carried, rest, delivered, deliver-7, deliver-accepted}
 use Rattle.steps.proofs.CutLaws.{Lost}
 
--- Whose rows are cut: two stations.
-pub cut-below : (memory : Memory) (packets : List Packet) (count kind a b r : ℕ) → Tested memory packets count kind a b r → r ≡ 0 → (cut : Cut)
-    → let p = getD packets (a % 128) zeroPacket in (kind ≡ 2) ⊎ ((kind ≡ 6) × (p .kind ≡ 3))
-    → (kind ≡ 2 → (cut .first ≡ a) × (cut .second ≡ b) × (cut .mask ≡ 65_535) × (cut .others ≡ 65_535))
-    → (kind ≡ 6 → (cut .first ≡ p .receiver) × (cut .second ≡ p .sender) × (cut .mask ≡ p .mask) × (cut .others ≡ 0))
-    → (cut .first < memory .n) × (cut .second < memory .n) × (cut .first ≢ cut .second)
-unfolding Passes view
-cut-below memory packets count kind a b r h none cut (inl e) parts errs =
-    let is = passes memory packets count kind a b r h none (Down a b) (λ x. omega arith) (call-2 kind a b e) in
-    let w = pair-tells (view (airing memory packets count)) a b (is .1 .0) in
-    let k = parts e in
-    (omega (arith, k .0, w .0), omega (arith, k .1, w .1), λ q. w .2 (sym (k .0) ∙ q ∙ k .1))
-cut-below memory packets count kind a b r h none cut (inr w) parts errs =
-    let c = carried memory packets count kind a b r h none (w .0) in
-    let k = errs (w .0) in
-    (omega (arith, k .0, c .receiver-below), omega (arith, k .1, c .sender-below), λ q. c .apart (sym (k .1) ∙ sym q ∙ k .0))
+module _ {memory : Memory} {packets : List Packet} {count kind a b r : ℕ} (h : Tested memory packets count kind a b r) (none : r ≡ 0) where
+  abbrev delivered-packet : Packet
+  delivered-packet = getD packets (a % 128) zeroPacket
 
--- The error that is delivered is there.
-pub cut-there : (memory : Memory) (packets : List Packet) (count kind a b r : ℕ) → Tested memory packets count kind a b r → r ≡ 0
-    → (kind ≡ 2) ⊎ ((kind ≡ 6) × (getD packets (a % 128) zeroPacket .kind ≡ 3)) → kind ≢ 2 → a % 128 < count
-cut-there memory packets count kind a b r h none (inl e) other = absurd (other e)
-cut-there memory packets count kind a b r h none (inr w) other = omega (arith, arrives memory packets count kind a b r h none (w .0))
+  -- Whose rows are cut: two stations.
+  pub cut-below : {cut : Cut} → (kind ≡ 2) ⊎ ((kind ≡ 6) × (delivered-packet .kind ≡ 3))
+      → (kind ≡ 2 → (cut .first ≡ a) × (cut .second ≡ b) × (cut .mask ≡ 65_535) × (cut .others ≡ 65_535))
+      → (kind ≡ 6 → (cut .first ≡ delivered-packet .receiver) × (cut .second ≡ delivered-packet .sender) × (cut .mask ≡ delivered-packet .mask) × (cut .others ≡ 0))
+      → (cut .first < memory .n) × (cut .second < memory .n) × (cut .first ≢ cut .second)
+  unfolding Passes view
+  cut-below (inl e) parts errs =
+      let is = passes h none (Down a b) (λ x. omega arith) (call-2 kind a b e) in
+      let w = pair-tells (view (airing memory packets count)) a b (is .1 .0) in
+      let k = parts e in
+      (omega (arith, k .0, w .0), omega (arith, k .1, w .1), λ q. w .2 (sym (k .0) ∙ q ∙ k .1))
+  cut-below (inr w) parts errs =
+      let c = carried h none (w .0) in
+      let k = errs (w .0) in
+      (omega (arith, k .0, c .receiver-below), omega (arith, k .1, c .sender-below), λ q. c .apart (sym (k .1) ∙ sym q ∙ k .0))
+
+  -- The error that is delivered is there.
+  pub cut-there : (kind ≡ 2) ⊎ ((kind ≡ 6) × (delivered-packet .kind ≡ 3)) → kind ≢ 2 → a % 128 < count
+  cut-there (inl e) other = absurd (other e)
+  cut-there (inr w) other = omega (arith, arrives h none (w .0))
 
 -- The packets of an error, by its scope.
 abbrev ErrorScope : ℕ → ℕ → Type 0
 ErrorScope scope mask = (net : Network) (a : ℕ) (p : Packet) → bodyOf p ≡ error mask → sentBy scope (net .links) (net .n) a p ≡ errors net a mask
+
+-- The memory with other rows.
+abbrev pub with-rows : Memory → List Row → Memory
+with-rows m rows = record {
+  s = m .s;
+  m = m .m;
+  d = m .d;
+  rows = rows;
+  records = m .records;
+  air = m .air;
+  numbers = m .numbers;
+  sought = m .sought;
+  active = m .active;
+  links = m .links;
+  n = m .n;
+}
+
+-- The memory with other links.
+abbrev pub with-links : Memory → List Bool → Memory
+with-links m up = record {
+  s = m .s;
+  m = m .m;
+  d = m .d;
+  rows = m .rows;
+  records = m .records;
+  air = m .air;
+  numbers = m .numbers;
+  sought = m .sought;
+  active = m .active;
+  links = up;
+  n = m .n;
+}
 
 -- What is known where the code has gathered and decided: whose rows are cut (Down, or the error p), what they lose, the links, and what is sent.
 pub record Cutting (memory : Memory) (kind a b : ℕ) (p : Packet) (cut : Cut) (losses : Losses) (links : List Bool) (scope other : ℕ) (q z : Packet) : Type 0 where
@@ -78,13 +111,13 @@ pub record Cutting (memory : Memory) (kind a b : ℕ) (p : Packet) (cut : Cut) (
   pub second-is : bodyOf z ≡ error (losses .others)
   pub second-sends : ErrorScope other (losses .others)
 
-module _ (memory : Memory) (packets : List Packet) (count kind a b r : ℕ) (h : Tested memory packets count kind a b r) (zero : r ≡ 0)
-    (cut : Cut) (losses : Losses) (links : List Bool) (scope other : ℕ) (q z : Packet) (g : Cutting memory kind a b (getD packets (a % 128) zeroPacket) cut losses links scope other q z) where
+module _ {memory : Memory} {packets : List Packet} {count kind a b r : ℕ} (h : Tested memory packets count kind a b r) (zero : r ≡ 0)
+    {cut : Cut} {losses : Losses} {links : List Bool} {scope other : ℕ} {q z : Packet} (g : Cutting memory kind a b (getD packets (a % 128) zeroPacket) cut losses links scope other q z) where
   abbrev m : Memory
   m = airing memory packets count
 
   abbrev ranged : Ranged m
-  ranged = known memory packets count kind a b r h
+  ranged = known h
 
   abbrev p : Packet
   p = getD packets (a % 128) zeroPacket
@@ -102,33 +135,22 @@ module _ (memory : Memory) (packets : List Packet) (count kind a b r : ℕ) (h :
   more = sentBy other links (memory .n) (cut .second) z
 
   -- The memory after it.
-  abbrev next : List Row → Air → Memory
-  next rows air = record {
-    s = memory .s;
-    m = memory .m;
-    d = memory .d;
-    rows = rows;
-    records = memory .records;
-    air = air;
-    numbers = memory .numbers;
-    sought = memory .sought;
-    active = memory .active;
-    links = links;
-    n = memory .n;
-  }
+  abbrev next : List Row → Memory
+  next rows = with-links (with-rows memory rows) links
 
-  abbrev flown : List Packet → Air
-  flown packets′ = record { packets = packets′; count = length left + length sent + length more }
+  abbrev flown : List Row → List Packet → Memory
+  flown rows packets′ = airing (next rows) packets′ (length left + length sent + length more)
 
   -- The rows with each station taken out of the other's.
   abbrev taken : List model.Row
   taken = takeOut (bit (cut .others)) (names (cut .first)) (cut .second) (memory .n) (takeOut (bit (cut .mask)) (names (cut .second)) (cut .first) (memory .n) all)
 
-  pub next-shape : (rows : List Row) (air : Air) (packets′ : List Packet) → map rowOf rows ≡ taken → length packets′ ≡ airLimit → Shape (next rows air) packets′
-  next-shape rows air packets′ t long = record {
+  pub cut-shape : (after : Memory) → after ≡ with-rows memory (after .rows) → map rowOf (after .rows) ≡ taken → {packets′ : List Packet} → length packets′ ≡ airLimit
+      → Shape (with-links after links) packets′
+  cut-shape after same t {packets′} long = subst (λ (x : Memory). Shape (with-links x links) packets′) (sym same) (record {
     labels = h .shape .labels;
     rows-length =
-        sym (length-map rows rowOf) ∙ ap length t
+        sym (length-map (after .rows) rowOf) ∙ ap length t
         ∙ takeOut-length (bit (cut .others)) (names (cut .first)) (cut .second) _ (memory .n)
         ∙ takeOut-length (bit (cut .mask)) (names (cut .second)) (cut .first) all (memory .n)
         ∙ length-map (memory .rows) rowOf ∙ h .shape .rows-length;
@@ -136,12 +158,12 @@ module _ (memory : Memory) (packets : List Packet) (count kind a b r : ℕ) (h :
     sought-length = h .shape .sought-length;
     active-length = h .shape .active-length;
     packets-length = long;
-  }
+  })
 
   -- Down.
   module _ (e : kind ≡ 2) where
     parts : (eventOf kind a b ≡ calls (Down a b)) × Passes (Down a b) (view m)
-    parts = passes memory packets count kind a b r h zero (Down a b) (λ x. omega arith) (call-2 kind a b e)
+    parts = passes h zero (Down a b) (λ x. omega arith) (call-2 kind a b e)
 
     limited-down : step (Down a b) (view m) ≡ limited (down a b (view m))
     unfolding Passes
@@ -178,7 +200,7 @@ module _ (memory : Memory) (packets : List Packet) (count kind a b r : ℕ) (h :
 
     down-7 : airLimit < length left + (length sent + length more) → Happens m (eventOf kind a b) (happened m 7 0 0)
     down-7 full =
-        happens-7 memory packets count kind a b r h zero (Down a b) (parts .0)
+        happens-7 h zero (Down a b) (parts .0)
         (limited-down ∙ ap limited down-is ∙ sending-7 0 (sent ++ more) after (omega (arith, ap length rest-down, length-append sent more)))
 
     rows-down : taken ≡ after .rows
@@ -189,33 +211,33 @@ module _ (memory : Memory) (packets : List Packet) (count kind a b r : ℕ) (h :
         (takeOut-full (names a) b (memory .n) _ (ranged .high) ∙ ap (takeOut everyDestination (names a) b (memory .n)) (takeOut-full (names b) a (memory .n) all (ranged .high)))
 
     done-down : (rows : List Row) (packets′ : List Packet) (answer : ℕ) → map rowOf rows ≡ taken → packetsOf packets′ (length left + length sent + length more) ≡ (left ++ sent) ++ more
-        → answer ≡ 0 → effect answer (length sent + length more) (view (next rows (flown packets′))) ≡ sending 0 (sent ++ more) after
+        → answer ≡ 0 → effect answer (length sent + length more) (view (flown rows packets′)) ≡ sending 0 (sent ++ more) after
     unfolding parted setRows setAir setLinks view sending send
     done-down rows packets′ answer t f none = rw (none, sym (length-append sent more), f ∙ append-assoc left sent more, rest-down, t ∙ rows-down, links-down)
 
     down-happens : (rows : List Row) (packets′ : List Packet) (answer : ℕ) → length left + (length sent + length more) ≤ airLimit → map rowOf rows ≡ taken
         → packetsOf packets′ (length left + length sent + length more) ≡ (left ++ sent) ++ more
-        → answer ≡ 0 → Happens m (eventOf kind a b) (happened (next rows (flown packets′)) answer (length sent + length more) 0)
+        → answer ≡ 0 → Happens m (eventOf kind a b) (happened (flown rows packets′) answer (length sent + length more) 0)
     down-happens rows packets′ answer room t f none =
-        happens-accepted memory packets count kind a b r h zero (Down a b) (parts .0) (next rows (flown packets′)) answer (length sent + length more) (sending 0 (sent ++ more) after)
+        happens-accepted h zero (Down a b) (parts .0) (flown rows packets′) answer (length sent + length more) (sending 0 (sent ++ more) after)
         (limited-down ∙ ap limited down-is ∙ sending-accepted 0 (sent ++ more) after (omega (arith, ap length rest-down, length-append sent more)))
         (done-down rows packets′ answer t f none)
 
   -- An error p, from j to i.
   module _ (e : kind ≡ 6) (is-error : p .kind ≡ 3) where
     abbrev flying : Network
-    flying = setAir (rest memory packets count kind a b r h zero e) (view m)
+    flying = setAir (rest h zero e) (view m)
 
     error-is : step (Deliver a) (view m) ≡ limited (onError (p .receiver) (p .sender) (p .mask) flying)
     unfolding receive
-    error-is = delivered memory packets count kind a b r h zero e ∙ ap limited (rw (body-error p is-error))
+    error-is = delivered h zero e ∙ ap limited (rw (body-error p is-error))
 
     links-error : links ≡ memory .links
     links-error = let w = g .error-cuts e in rw (g .links-are, e) (ap (set (memory .links) _) (and-true _) ∙ set-getD (memory .links) _ false)
 
     rest-error : left ≡ flying .air
     unfolding restOf setAir
-    rest-error = rw (e, arrives memory packets count kind a b r h zero e .1)
+    rest-error = rw (e, arrives h zero e .1)
 
     gone-is : losses .emptied ≡ emptied (bit (p .mask)) (names (p .sender)) (p .receiver) (memory .n) all
     gone-is = let w = g .error-cuts e in g .lost-is .emptied-is ∙ rw (w .0, w .1, w .2)
@@ -249,7 +271,7 @@ module _ (memory : Memory) (packets : List Packet) (count kind a b r : ℕ) (h :
     error-7 : airLimit < length left + (length sent + length more) → Happens m (eventOf kind a b) (happened m 7 0 0)
     unfolding setRows
     error-7 full =
-        deliver-7 memory packets count kind a b r h zero e
+        deliver-7 h zero e
         (error-is ∙ ap limited onError-is ∙ sending-7 (errorOutcome (losses .removed) (losses .emptied)) sent after-error (omega (arith, ap length rest-error, few)))
 
     rows-error : taken ≡ takeOut (bit (p .mask)) (names (p .sender)) (p .receiver) (memory .n) all
@@ -257,7 +279,7 @@ module _ (memory : Memory) (packets : List Packet) (count kind a b r : ℕ) (h :
 
     done-error : (rows : List Row) (packets′ : List Packet) (answer : ℕ) → map rowOf rows ≡ taken → packetsOf packets′ (length left + length sent + length more) ≡ (left ++ sent) ++ more
         → answer ≡ errorOutcome (losses .removed) (losses .emptied)
-        → effect answer (length sent + length more) (view (next rows (flown packets′))) ≡ sending (errorOutcome (losses .removed) (losses .emptied)) sent after-error
+        → effect answer (length sent + length more) (view (flown rows packets′)) ≡ sending (errorOutcome (losses .removed) (losses .emptied)) sent after-error
     unfolding setRows setAir view sending send
     done-error rows packets′ answer t f outcome =
         let total : length sent + length more ≡ length sent = omega (arith, few) in
@@ -272,10 +294,10 @@ module _ (memory : Memory) (packets : List Packet) (count kind a b r : ℕ) (h :
 
     error-happens : (rows : List Row) (packets′ : List Packet) (answer : ℕ) → length left + (length sent + length more) ≤ airLimit → map rowOf rows ≡ taken
         → packetsOf packets′ (length left + length sent + length more) ≡ (left ++ sent) ++ more → answer ≡ errorOutcome (losses .removed) (losses .emptied)
-        → Happens m (eventOf kind a b) (happened (next rows (flown packets′)) answer (length sent + length more) 0)
+        → Happens m (eventOf kind a b) (happened (flown rows packets′) answer (length sent + length more) 0)
     unfolding setRows
     error-happens rows packets′ answer room t f outcome =
-        deliver-accepted memory packets count kind a b r h zero e (next rows (flown packets′)) answer (length sent + length more) (sending (errorOutcome (losses .removed) (losses .emptied)) sent after-error)
+        deliver-accepted h zero e (flown rows packets′) answer (length sent + length more) (sending (errorOutcome (losses .removed) (losses .emptied)) sent after-error)
         (error-is ∙ ap limited onError-is ∙ sending-accepted (errorOutcome (losses .removed) (losses .emptied)) sent after-error (omega (arith, ap length rest-error, few)))
         (done-error rows packets′ answer t f outcome)
 
@@ -288,7 +310,7 @@ module _ (memory : Memory) (packets : List Packet) (count kind a b r : ℕ) (h :
       go (inr w) = second-error (w .0) (w .1)
 
   -- Either, with the numbers that the code counted.
-  module _ (stay first second : ℕ) (x : stay ≡ length left) (y : first ≡ length sent) (u : second ≡ length more) where
+  module _ {stay first second : ℕ} (x : stay ≡ length left) (y : first ≡ length sent) (u : second ≡ length more) where
     pub cut-7 : airLimit < stay + (first + second) → Happens m (eventOf kind a b) (happened m 7 0 0)
     cut-7 over = go (g .which)
       where
@@ -297,24 +319,26 @@ module _ (memory : Memory) (packets : List Packet) (count kind a b r : ℕ) (h :
         go (inr w) = error-7 (w .0) (w .1) (omega (arith, over, x, y, u))
 
     -- What `parted` gives at Down, and what `exchange` gives at an error.
-    abbrev Moved : List Packet → Type 0
-    Moved packets′ = let air = apart (cut .first) (cut .second) (packetsOf packets count) in
+    abbrev pub CutMoved : List Packet → Type 0
+    CutMoved packets′ = let air = apart (cut .first) (cut .second) (packetsOf packets count) in
         ((kind ≡ 2) × (packetsOf packets′ (length air + length sent + length more) ≡ (air ++ sent) ++ more))
         ⊎ ((kind ≢ 2) × (packetsOf packets′ (stay + length sent) ≡ without (a % 128) (packetsOf packets (stay + 1)) ++ sent))
 
-    moved : (packets′ : List Packet) → Moved packets′ → packetsOf packets′ (length left + length sent + length more) ≡ (left ++ sent) ++ more
+    moved : (packets′ : List Packet) → CutMoved packets′ → packetsOf packets′ (length left + length sent + length more) ≡ (left ++ sent) ++ more
     moved packets′ (inl (e, f)) = rw (moves.rest-down kind packets count (a % 128) (cut .first) (cut .second) e) f
     moved packets′ (inr (e, f)) =
-        let there = cut-there memory packets count kind a b r h zero (g .which) e in
+        let there = cut-there h zero (g .which) e in
         let one-less : stay ≡ count - 1 = x ∙ moves.rest-one-less kind packets count (a % 128) (cut .first) (cut .second) e there in
         rw (moves.rest-error kind packets count (a % 128) (cut .first) (cut .second) e, more-none e, add-zero)
         (exchanged packets count (a % 128) there packets′ sent (rw one-less at f) ∙ sym (append-nil _))
 
-    pub cut-happens : (rows : List Row) (packets′ : List Packet) (answer : ℕ) → stay + (first + second) ≤ airLimit → map rowOf rows ≡ taken → Moved packets′
-        → answer ≡ (if eqb kind 2 then 0 else errorOutcome (losses .removed) (losses .emptied))
-        → Happens m (eventOf kind a b) (happened (next rows (record { packets = packets′; count = stay + first + second })) answer (first + second) 0)
-    cut-happens rows packets′ answer room t f outcome = rw (x, y, u) (go (g .which))
+    pub cut-happens : (after : Memory) → after ≡ with-rows memory (after .rows) → map rowOf (after .rows) ≡ taken → (packets′ : List Packet) → CutMoved packets′
+        → stay + (first + second) ≤ airLimit → {answer : ℕ} → answer ≡ (if eqb kind 2 then 0 else errorOutcome (losses .removed) (losses .emptied))
+        → Happens m (eventOf kind a b) (happened (airing (with-links after links) packets′ (stay + first + second)) answer (first + second) 0)
+    cut-happens after same t packets′ f room {answer} outcome =
+        subst (λ (z : Memory). Happens m (eventOf kind a b) (happened (airing (with-links z links) packets′ (stay + first + second)) answer (first + second) 0)) (sym same)
+        (rw (x, y, u) (go (g .which)))
       where
-        go : (kind ≡ 2) ⊎ ((kind ≡ 6) × (p .kind ≡ 3)) → Happens m (eventOf kind a b) (happened (next rows (flown packets′)) answer (length sent + length more) 0)
-        go (inl e) = down-happens e rows packets′ answer (omega (arith, x, y, u)) t (moved packets′ f) (outcome ∙ rw e)
-        go (inr w) = error-happens (w .0) (w .1) rows packets′ answer (omega (arith, x, y, u)) t (moved packets′ f) (outcome ∙ rw (w .0))
+        go : (kind ≡ 2) ⊎ ((kind ≡ 6) × (p .kind ≡ 3)) → Happens m (eventOf kind a b) (happened (flown (after .rows) packets′) answer (length sent + length more) 0)
+        go (inl e) = down-happens e (after .rows) packets′ answer (omega (arith, room, x, y, u)) t (moved packets′ f) (outcome ∙ rw e)
+        go (inr w) = error-happens (w .0) (w .1) (after .rows) packets′ answer (omega (arith, room, x, y, u)) t (moved packets′ f) (outcome ∙ rw (w .0))

@@ -53,7 +53,7 @@ pub record Shape (m : Memory) (packets : List Packet) : Type 0 where
   pub active-length : length (m .active) ≡ 16
   pub packets-length : length packets ≡ airLimit
 
-module _ (m : Memory) (packets : List Packet) (count : ℕ) (w : Shape m packets) where
+module _ {m : Memory} {packets : List Packet} (count : ℕ) (w : Shape m packets) where
   pub shape-sized : Sized (view (airing m packets count))
   unfolding view
   shape-sized = record {
@@ -93,12 +93,12 @@ pub record Turn (memory : Memory) (kinds operands lines lines′ : List ℕ) (ne
   pub told-are : lines′ ≡ sets lines 0 (tabulate i (told (view memory) kinds operands))
   pub fit : ToldFit (view memory) kinds operands i
 
-module _ (memory : Memory) (kinds operands lines : List ℕ) where
+module _ {memory : Memory} {kinds operands lines : List ℕ} where
   pub turn-none : Shape memory (memory .air .packets) → Turn memory kinds operands lines lines memory (memory .air .packets) (memory .air .count) 0
   unfolding Ran tabulate ToldFit
   turn-none w = record { ran = refl; shape = w; told-are = refl; fit = λ j h. absurd (omega arith) }
 
-  module _ (lines′ : List ℕ) (next : Memory) (packets : List Packet) (count i : ℕ) (t : Turn memory kinds operands lines lines′ next packets count i) where
+  module _ {lines′ : List ℕ} {next : Memory} {packets : List Packet} {count i : ℕ} (t : Turn memory kinds operands lines lines′ next packets count i) where
     pub turn-ranged : memoryInRange (view memory) ≡ true → memoryInRange (view (airing next packets count)) ≡ true
     turn-ranged h = ran-in-range memory kinds operands i (airing next packets count) (t .ran) h
 
@@ -136,11 +136,11 @@ module _ (memory : Memory) (kinds operands lines : List ℕ) where
         go (equal e) = rw (e, line-is r h) fits
         go (more x) = absurd (omega arith)
 
-    pub turn-more : (kind a b : ℕ) → Event kind a b → (next′ : Memory) (packets′ : List Packet) (count′ answer sent hop v : ℕ) → (v ≡ packed answer sent count′ hop) × Fits answer sent count′ hop → Shape next′ packets′
+    pub turn-more : {kind a b : ℕ} → Event kind a b → {next′ : Memory} {packets′ : List Packet} {count′ answer sent hop v : ℕ} → (v ≡ packed answer sent count′ hop) × Fits answer sent count′ hop → Shape next′ packets′
         → Happens (airing next packets count) (eventOf kind a b) (happened (airing next′ packets′ count′) answer sent hop)
         → Turn memory kinds operands lines (set lines′ i v) next′ packets′ count′ (i + 1)
     unfolding Ran
-    turn-more kind a b event next′ packets′ count′ answer sent hop v is w so =
+    turn-more {kind} {a} {b} event {next′} {packets′} {count′} {answer} {sent} {hop} {v} is w so =
         let h = event-is kind a b event (happened (airing next′ packets′ count′) answer sent hop) so in
         let f = told (view memory) kinds operands in
         record {

@@ -13,7 +13,9 @@ use borrow.Author.Tests.{eq-eqb, eqb-true, ltb-true, ltb-false}
 use Rattle.base.specs.Choice.{if_then_else_}
 use Rattle.model.specs.Memory.{names, rowIn, rowAt, rowLimit, place, memoryInRange, airLimit}
 use Rattle.model.specs.Calls.{takeOut, bit, hopLimit, follow}
+use Rattle.model.specs.Events.{eventOf}
 use Rattle.rows.specs.declared.Row.{Row}
+use Rattle.network.specs.declared.Packet.{Packet}
 use Rattle.network.specs.declared.Memory.{Memory}
 use Rattle.network.specs.View.{zeroPacket, labelOf, view}
 use Rattle.rows.specs.View.{zeroRow, rowOf}
@@ -22,12 +24,14 @@ use Rattle.network.proofs.Bounds.{memory-lengths, array-length}
 use Rattle.network.proofs.Ranged.{Ranged}
 use Rattle.decisions.specs.Tracing.{tells}
 use Rattle.station.proofs.Laws.{sent-few}
+use Rattle.steps.specs.Lines.{packed, Fits}
+use Rattle.steps.specs.Happens.{happened, Happens}
 use Rattle.steps.proofs.PacketMoves.{rest-down, rest-one-less, rest-few}
 use Rattle.steps.proofs.RunLaws.{airing, Shape, shape-ranged, Turn, turn-none, turn-ranged, turn-length, turn-more}
 use Rattle.steps.proofs.ArmLaws.{seen, Tested, class-cut, turned-down, light-shape, light-happens, trace-below, trace-happens}
-use Rattle.steps.proofs.ChangeLaws.{Looks, unused, arrived, goes, changed-shape, change-7, change-happens}
+use Rattle.steps.proofs.ChangeLaws.{Looks, unused, arrived, goes, changed, changed-shape, change-7, ChangeMoved, change-happens}
 use Rattle.steps.proofs.CutLaws.{Lost, lost-none, lost-below, lost-more, CutRows, cut-none, cut-more, cut-all}
-use Rattle.steps.proofs.PartingLaws.{cut-below, cut-there, Cutting, next-shape, cut-7, cut-happens}
+use Rattle.steps.proofs.PartingLaws.{cut-below, cut-there, with-rows, with-links, Cutting, cut-shape, cut-7, CutMoved, cut-happens}
 use Rattle.steps.proofs.running.run.Statement.{statement}
 use Rattle.steps.proofs.running.run.Tie as tie
 
@@ -48,22 +52,6 @@ Inv-loop3 kinds operands lines memory packets count i kind a b at n k station t 
 
 abbrev μ-loop3 : tie.MeasureT-loop3
 μ-loop3 kinds operands lines memory packets count i kind a b at n k station t own pair linked active number class cut first second edge up links losses₀ u₀ losses u = n - u
-
--- The memory with other rows.
-abbrev with-rows : Memory → List Row → Memory
-with-rows m rows = record {
-  s = m .s;
-  m = m .m;
-  d = m .d;
-  rows = rows;
-  records = m .records;
-  air = m .air;
-  numbers = m .numbers;
-  sought = m .sought;
-  active = m .active;
-  links = m .links;
-  n = m .n;
-}
 
 -- The rows cut so far.
 abbrev Inv-loop4 : tie.InvT-loop4
@@ -112,6 +100,9 @@ hop-tests c = c .before .before .before .before .before .before .before .before
 abbrev hop-arm : Of tie.After-place2 → Of tie.Then3
 hop-arm c = c .before .before .before .before .before
 
+abbrev walk-tests : Of tie.After-line3 → Of tie.After-class-of
+walk-tests c = c .before .before .before .before .before .before .before .before
+
 abbrev arm-tests : Of tie.Then5 → Of tie.After-class-of
 arm-tests c = c .before .before .before .before
 
@@ -154,6 +145,9 @@ all-cut c = c .before .before .before .before .before
 abbrev decided : Of tie.After-line5 → Of tie.After-copies2
 decided c = c .before .before .before .before .before .before .before
 
+abbrev cut-has-room : Of tie.After-line5 → Of tie.Else6
+cut-has-room c = c .before .before .before .before .before
+
 abbrev held-tests : Of tie.After-label-of → Of tie.After-class-of
 held-tests c = c .before .before .before .before .before .before .before .before .before .before .before .before .before .before
 
@@ -175,19 +169,22 @@ change-tests c = c .before .before .before .before .before .before .before .befo
 abbrev chosen : Of tie.After-line7 → Of tie.After-copies3
 chosen c = c .before .before .before .before .before .before .before .before .before
 
+abbrev has-room : Of tie.After-line7 → Of tie.Else8
+has-room c = c .before .before .before .before .before .before .before
+
 -- The memory before a turn, which is in range.
 abbrev memory : Of tie.At-loop → Memory
 memory c = airing (c .loop .memory) (c .loop .packets) (c .loop .count)
 
 ranged : (c : Of tie.At-loop) → memoryInRange (view (memory c)) ≡ true
-ranged c = turn-ranged _ _ _ _ _ _ _ _ _ (c .loop .inv .1) (begin c .pre .0)
+ranged c = turn-ranged (c .loop .inv .1) (begin c .pre .0)
 
 known : (c : Of tie.At-loop) → Ranged (memory c)
-known c = shape-ranged _ _ _ (c .loop .inv .1 .shape) (ranged c)
+known c = shape-ranged _ (c .loop .inv .1 .shape) (ranged c)
 
 -- There is room for the event's line.
 room : (c : Of tie.In-loop) → c .before .loop .i < length (c .before .loop .lines)
-room c = omega (arith, c .loop-test, begin (c .before) .pre .1, turn-length _ _ _ _ _ _ _ _ _ (c .before .loop .inv .1))
+room c = omega (arith, c .loop-test, begin (c .before) .pre .1, turn-length (c .before .loop .inv .1))
 
 -- Where the event looks.
 inside : (c : Of tie.After-spot-of) → (c .spot-of .result .station < 16) × (c .spot-of .result .destination < 16) × (c .spot-of .result .source < 16)
@@ -212,8 +209,27 @@ tested : (c : Of tie.After-class-of) → let e = given c .event-at .result in le
 tested c = record {
   shape = turn c .loop .inv .1 .shape;
   ranged = ranged (turn c);
-  tests = c .before .refusal .ensures (view (memory (turn c))) (seen (turn c .loop .memory) (turn c .loop .packets) (turn c .loop .count) _ _ _ (looked-at c .spot-of .result) _ (ranged (turn c)) (known (turn c) .high) (looked-at c .spot-of .ensures .0) (paired c .pair-place .ensures));
+  tests = c .before .refusal .ensures (view (memory (turn c))) (seen (turn c .loop .memory) (turn c .loop .packets) (turn c .loop .count) (looked-at c .spot-of .result) (ranged (turn c)) (known (turn c) .high) (looked-at c .spot-of .ensures .0) (paired c .pair-place .ensures));
 }
+
+-- The event is one of at most 4,096.
+among : (c : Of tie.After-class-of) → let kinds = begin (turn c) .args .kinds .now in (turn c .loop .i < length kinds) × (length kinds ≤ 4_096)
+among c = (omega (arith, entered c .loop-test), omega (arith, begin (turn c) .pre .1))
+
+-- A turn ends: the event has happened, and v tells of it.
+module _ (c : Of tie.After-class-of) where
+  abbrev Ended : ℕ → Memory → List Packet → ℕ → Type 0
+  Ended v next packets count = let start = begin (turn c) .args in let now = turn c .loop in (now .i + 1 ≤ length (start .kinds .now))
+      × Turn (start .t1) (start .kinds .now) (start .operands .now) (start .lines .now) (set (now .lines) (now .i) v) next packets count (now .i + 1)
+
+  ended : {next : Memory} {packets : List Packet} {count answer sent hops v : ℕ} → (v ≡ packed answer sent count hops) × Fits answer sent count hops → Shape next packets
+      → let e = given c .event-at .result in Happens (memory (turn c)) (eventOf (e .kind) (e .a) (e .b)) (happened (airing next packets count) answer sent hops)
+      → Ended v next packets count
+  ended line shape happens = (omega (arith, among c), turn-more (turn c .loop .inv .1) (given c .event-at .ensures) line shape happens)
+
+  -- Nothing changed.
+  as-before : Shape (turn c .loop .memory) (turn c .loop .packets)
+  as-before = turn c .loop .inv .1 .shape
 
 -- Up, Give up and Expire.
 cell : (c : Of tie.After-place) → c .place .result < 256
@@ -228,7 +244,7 @@ shrunk c = ap (shrink (getD (turn (light-tests c) .loop .memory .rows) (c .befor
 
 -- Trace: its stations, and where it is.
 ends-below : (c : Of tie.Then3) → let w = looked-at (c .before .before .before) .spot-of .result in let n = turn (c .before .before .before) .loop .memory .n in (w .station < n) × (w .destination < n)
-ends-below c = trace-below _ _ _ _ _ _ _ (tested (c .before .before .before)) (c .before .before .if1 .left) _ (sym (c .before .before .before .class-of .ensures) ∙ c .if3 .taken) (looked-at (c .before .before .before) .spot-of .result) (looked-at (c .before .before .before) .spot-of .ensures .0)
+ends-below c = trace-below (tested (c .before .before .before)) (c .before .before .if1 .left) _ (sym (c .before .before .before .class-of .ensures) ∙ c .if3 .taken) (looked-at (c .before .before .before) .spot-of .result) (looked-at (c .before .before .before) .spot-of .ensures .0)
 
 here : (c : Of tie.After-place2) → (c .before .before .before .loop2 .walk .at < turn (hop-tests c) .loop .memory .n) × (c .place2 .result < 256)
 here c =
@@ -256,11 +272,11 @@ walked c e =
 
 -- Rows are cut: the two stations.
 cutting : (c : Of tie.Then5) → let e = given (arm-tests c) .event-at .result in let p = getD (turn (arm-tests c) .loop .packets) (e .a % 128) zeroPacket in (e .kind ≡ 2) ⊎ ((e .kind ≡ 6) × (p .kind ≡ 3))
-cutting c = class-cut _ _ (sym (arm-tests c .class-of .ensures) ∙ c .if5 .taken)
+cutting c = class-cut (sym (arm-tests c .class-of .ensures) ∙ c .if5 .taken)
 
 ends : (c : Of tie.After-cut-of) → let n = turn (arm-tests (c .before)) .loop .memory .n in
     (c .cut-of .result .first < n) × (c .cut-of .result .second < n) × (c .cut-of .result .first ≢ c .cut-of .result .second)
-ends c = cut-below _ _ _ _ _ _ _ (tested (arm-tests (c .before))) (c .before .before .before .before .if1 .left) _ (cutting (c .before)) (c .cut-of .ensures .0) (c .cut-of .ensures .1)
+ends c = cut-below (tested (arm-tests (c .before))) (c .before .before .before .before .if1 .left) (cutting (c .before)) (c .cut-of .ensures .0) (c .cut-of .ensures .1)
 
 edge : (c : Of tie.After-pair-place2) → c .pair-place2 .result < 256
 edge c = omega (arith, c .pair-place2 .ensures, ends (c .before), known (turn (arm-tests (c .before .before))) .high)
@@ -288,7 +304,7 @@ lost-read c =
 
 -- The error that is delivered is there.
 there : (c : Of tie.Then5) → given (arm-tests c) .event-at .result .kind ≢ 2 → given (arm-tests c) .event-at .result .a % 128 < turn (arm-tests c) .loop .count
-there c = cut-there _ _ _ _ _ _ _ (tested (arm-tests c)) (c .before .before .before .if1 .left) (cutting c)
+there c = cut-there (tested (arm-tests c)) (c .before .before .before .if1 .left) (cutting c)
 
 -- The links after it.
 abbrev links : (c : Of tie.After-copies2) → List Bool
@@ -367,23 +383,26 @@ cut-rows : (c : Of tie.After-loop4) → let m = turn (cut-tests (all-cut c)) .lo
     map rowOf (c .before .loop4 .memory .rows) ≡ takeOut (bit (cut .others)) (names (cut .first)) (cut .second) (m .n) (takeOut (bit (cut .mask)) (names (cut .second)) (cut .first) (m .n) (map rowOf (m .rows)))
 cut-rows c =
     let last : c .before .loop4 .v ≡ c .before .before .turns-of .result = omega (arith, c .before .loop4 .inv .0, c .loop4-test) in
-    cut-all _ (ends (cut-at (all-cut c)) .2) _ _ _ _ _ (pieces (all-cut c) .lost-is) (last ∙ c .before .before .turns-of .ensures) (c .before .loop4 .inv .2)
+    cut-all (ends (cut-at (all-cut c)) .2) (pieces (all-cut c) .lost-is) (last ∙ c .before .before .turns-of .ensures) (c .before .loop4 .inv .2)
 
--- The memory with other links.
-abbrev linked : Memory → List Bool → Memory
-linked m up = record {
-  s = m .s;
-  m = m .m;
-  d = m .d;
-  rows = m .rows;
-  records = m .records;
-  air = m .air;
-  numbers = m .numbers;
-  sought = m .sought;
-  active = m .active;
-  links = up;
-  n = m .n;
-}
+-- Down, or an error delivered, ends with the packets that `parted` or `exchange` gave.
+module _ (c : Of tie.After-line5) (packets : List Packet) where
+  abbrev here-cut : Of tie.After-copies2
+  here-cut = decided c
+
+  abbrev rows-cut : Of tie.After-loop4
+  rows-cut = c .before .before
+
+  abbrev Cuts : Type 0
+  Cuts = CutMoved (tested (cut-tests here-cut)) (cut-passed here-cut .if1 .left) (pieces here-cut) (cut-stays here-cut .left-of .ensures) (here-cut .before .copies .ensures) (here-cut .copies2 .ensures) packets
+
+  cut-ended : length packets ≡ airLimit → Cuts
+      → Ended (cut-tests here-cut) (c .line5 .result) (with-links (rows-cut .before .loop4 .memory) (links here-cut)) packets (cut-stays here-cut .left-of .result + here-cut .before .copies .result + here-cut .copies2 .result)
+  cut-ended long moved =
+      ended (cut-tests here-cut) (c .line5 .ensures)
+      (cut-shape (tested (cut-tests here-cut)) (cut-passed here-cut .if1 .left) (pieces here-cut) _ (rows-cut .before .loop4 .inv .1) (cut-rows rows-cut) long)
+      (cut-happens (tested (cut-tests here-cut)) (cut-passed here-cut .if1 .left) (pieces here-cut) (cut-stays here-cut .left-of .ensures) (here-cut .before .copies .ensures) (here-cut .copies2 .ensures) _
+      (rows-cut .before .loop4 .inv .1) (cut-rows rows-cut) packets moved (fits (cut-has-room c)) (c .before .cut-answer .ensures))
 
 -- Every other call: its places, and what stands there.
 spots : (c : Of tie.After-place8) → (c .before .place7 .result < 256) × (c .place8 .result < 256)
@@ -408,7 +427,7 @@ looks c =
     }
 
 gone : (c : Of tie.After-change-of) → c .change-of .result .drops ≡ true → given (held-tests (c .before)) .event-at .result .a % 128 < turn (held-tests (c .before)) .loop .count
-gone c d = goes _ _ _ _ _ _ _ _ _ _ _ (looks (c .before)) _ (c .change-of .ensures) d
+gone c d = goes (looks (c .before)) (c .change-of .ensures) d
 
 -- Few packets are sent, and few stay.
 stay-few : (drops : Bool) (count : ℕ) → (if drops then count - 1 else count) ≤ count
@@ -427,8 +446,28 @@ over-two c = ltb-true _ _ (sym (c .before .full2 .ensures) ∙ c .if8 .taken)
 fits-two : (c : Of tie.Else8) → c .before .before .before .stay .result + c .before .before .copies3 .result ≤ airLimit
 fits-two c = ltb-false _ _ (sym (c .before .full2 .ensures) ∙ c .if8 .left)
 
+-- It ends with the packets that `exchange` or `transmit` gave.
+module _ (c : Of tie.After-line7) (packets : List Packet) where
+  abbrev here-chosen : Of tie.After-copies3
+  here-chosen = chosen c
+
+  abbrev choice : Of tie.After-change-of
+  choice = here-chosen .before .before .before
+
+  abbrev Changes : Type 0
+  Changes = ChangeMoved (looks (change-held here-chosen)) (choice .change-of .ensures) (here-chosen .before .stay .ensures) (here-chosen .copies3 .ensures) packets
+
+  abbrev after : Memory
+  after = changed (looks (change-held here-chosen)) (choice .change-of .ensures) (turn (change-tests here-chosen) .loop .memory .air)
+
+  change-ended : length packets ≡ airLimit → Changes → Ended (change-tests here-chosen) (c .line7 .result) after packets (here-chosen .before .stay .result + here-chosen .copies3 .result)
+  change-ended long moved =
+      ended (change-tests here-chosen) (c .line7 .ensures) (changed-shape (looks (change-held here-chosen)) (choice .change-of .ensures) long)
+      (change-happens (looks (change-held here-chosen)) (choice .change-of .ensures) (here-chosen .before .stay .ensures) (here-chosen .copies3 .ensures) (c .before .told .ensures) packets moved
+      (fits-two (has-room c)))
+
 loop-holds : Of tie.Need-loop-holds
-loop-holds c = (omega arith, turn-none _ _ _ _ (start-shape (c .before .before .before .before .before)))
+loop-holds c = (omega arith, turn-none (start-shape (c .before .before .before .before .before)))
 
 event-at-requires : Of tie.Need-event-at-requires
 event-at-requires c κs = (omega (arith, c .loop-test), omega (arith, c .loop-test, begin (c .before) .pre .1))
@@ -477,16 +516,16 @@ line-requires : Of tie.Need-line-requires
 line-requires c κs = search needs
 
 mul-lines : Of tie.Need-mul-lines
-mul-lines c = record { fits = omega (arith, entered (c .before .before) .loop-test, begin (turn (c .before .before)) .pre .1) }
+mul-lines c = record { fits = omega (arith, among (c .before .before)) }
 
 slice-write-lines : Of tie.Need-slice-write-lines
 slice-write-lines c = room (entered (c .before .before))
 
 loop-less : Of tie.Need-loop-less
-loop-less c = omega (arith, entered (c .before .before) .loop-test)
+loop-less c = omega (arith, among (c .before .before))
 
 loop-again : Of tie.Need-loop-again
-loop-again c = (omega (arith, entered (c .before .before) .loop-test), turn-more _ _ _ _ _ _ _ _ _ (turn (c .before .before) .loop .inv .1) _ _ _ (given (c .before .before) .event-at .ensures) _ _ _ _ _ _ _ (c .line .ensures) (turn (c .before .before) .loop .inv .1 .shape) (turned-down _ _ _ _ _ _ _ (tested (c .before .before)) (c .before .if1 .taken)))
+loop-again c = ended (c .before .before) (c .line .ensures) (as-before (c .before .before)) (turned-down (tested (c .before .before)) (c .before .if1 .taken))
 
 -- Up, Give up and Expire.
 place-requires : Of tie.Need-place-requires
@@ -517,20 +556,22 @@ line-requires-2 : Of tie.Need-line-requires-2
 line-requires-2 c κs = search needs
 
 mul-lines-2 : Of tie.Need-mul-lines-2
-mul-lines-2 c = record { fits = omega (arith, entered (light-tests c) .loop-test, begin (turn (light-tests c)) .pre .1) }
+mul-lines-2 c = record { fits = omega (arith, among (light-tests c)) }
 
 slice-write-lines-2 : Of tie.Need-slice-write-lines-2
 slice-write-lines-2 c = room (entered (light-tests c))
 
 loop-less-2 : Of tie.Need-loop-less-2
-loop-less-2 c = omega (arith, entered (light-tests c) .loop-test)
+loop-less-2 c = omega (arith, among (light-tests c))
 
 loop-again-2 : Of tie.Need-loop-again-2
-loop-again-2 c = (
-  omega (arith, entered (light-tests c) .loop-test),
-  turn-more _ _ _ _ _ _ _ _ _ (turn (light-tests c) .loop .inv .1) _ _ _ (given (light-tests c) .event-at .ensures) _ _ _ _ _ _ _ (c .line2 .ensures) (light-shape _ _ _ _ _ _ _ (tested (light-tests c)) (c .before .before .before .before .before .if1 .left) (looked-at (light-tests c) .spot-of .result) (looked-at (light-tests c) .spot-of .ensures .0) _ _ _ (paired (light-tests c) .pair-place .ensures) (c .before .before .before .place .ensures) (shrunk c) _)
-      (light-happens _ _ _ _ _ _ _ (tested (light-tests c)) (c .before .before .before .before .before .if1 .left) (looked-at (light-tests c) .spot-of .result) (looked-at (light-tests c) .spot-of .ensures .0) _ _ _ (paired (light-tests c) .pair-place .ensures) (c .before .before .before .place .ensures) (shrunk c) _ (sym (light-tests c .class-of .ensures) ∙ c .before .before .before .before .if2 .taken)),
-)
+loop-again-2 c =
+    let passed = c .before .before .before .before .before .if1 .left in
+    let spot = looked-at (light-tests c) .spot-of in
+    ended (light-tests c) (c .line2 .ensures)
+    (light-shape (tested (light-tests c)) passed (spot .result) (spot .ensures .0) (paired (light-tests c) .pair-place .ensures) (c .before .before .before .place .ensures) (shrunk c))
+    (light-happens (tested (light-tests c)) passed (spot .result) (spot .ensures .0) (paired (light-tests c) .pair-place .ensures) (c .before .before .before .place .ensures) (shrunk c) _
+    (sym (light-tests c .class-of .ensures) ∙ c .before .before .before .before .if2 .taken))
 
 -- Before the first event, and the tests of one.
 most-hops-requires : Of tie.Need-most-hops-requires
@@ -564,20 +605,20 @@ line-requires-3 : Of tie.Need-line-requires-3
 line-requires-3 c κs = search needs
 
 mul-lines-3 : Of tie.Need-mul-lines-3
-mul-lines-3 c = record { fits = omega (arith, entered (c .before .before .before .before .before .before .before .before) .loop-test, begin (turn (c .before .before .before .before .before .before .before .before)) .pre .1) }
+mul-lines-3 c = record { fits = omega (arith, among (walk-tests c)) }
 
 slice-write-lines-3 : Of tie.Need-slice-write-lines-3
-slice-write-lines-3 c = room (entered (c .before .before .before .before .before .before .before .before))
+slice-write-lines-3 c = room (entered (walk-tests c))
 
 loop-less-3 : Of tie.Need-loop-less-3
-loop-less-3 c = omega (arith, entered (c .before .before .before .before .before .before .before .before) .loop-test)
+loop-less-3 c = omega (arith, among (walk-tests c))
 
 loop-again-3 : Of tie.Need-loop-again-3
-loop-again-3 c = (
-  omega (arith, entered (c .before .before .before .before .before .before .before .before) .loop-test),
-  turn-more _ _ _ _ _ _ _ _ _ (turn (c .before .before .before .before .before .before .before .before) .loop .inv .1) _ _ _ (given (c .before .before .before .before .before .before .before .before) .event-at .ensures) _ _ _ _ _ _ _ (c .line3 .ensures) (turn (c .before .before .before .before .before .before .before .before) .loop .inv .1 .shape)
-      (trace-happens _ _ _ _ _ _ _ (tested (c .before .before .before .before .before .before .before .before)) (c .before .before .before .before .before .before .before .if1 .left) _ (sym (c .before .before .before .before .before .before .before .before .class-of .ensures) ∙ c .before .before .before .before .before .if3 .taken) (looked-at (c .before .before .before .before .before .before .before .before) .spot-of .result) (looked-at (c .before .before .before .before .before .before .before .before) .spot-of .ensures .0) _ (c .before .if4 .left) (c .before .before .before .loop2 .inv .1)),
-)
+loop-again-3 c =
+    let spot = looked-at (walk-tests c) .spot-of in
+    ended (walk-tests c) (c .line3 .ensures) (as-before (walk-tests c))
+    (trace-happens (tested (walk-tests c)) (c .before .before .before .before .before .before .before .if1 .left) _
+    (sym (walk-tests c .class-of .ensures) ∙ c .before .before .before .before .before .if3 .taken) (spot .result) (spot .ensures .0) _ (c .before .if4 .left) (c .before .before .before .loop2 .inv .1))
 
 -- Down, and an error delivered.
 cut-of-requires : Of tie.Need-cut-of-requires
@@ -593,7 +634,7 @@ array-write-links : Of tie.Need-array-write-links
 array-write-links c = edge (c .before .before)
 
 loop3-holds : Of tie.Need-loop3-holds
-loop3-holds c = (omega arith, lost-none _ _)
+loop3-holds c = (omega arith, lost-none)
 
 place-requires-3 : Of tie.Need-place-requires-3
 place-requires-3 c κs = search needs
@@ -614,7 +655,7 @@ element-copy-out-other : Of tie.Need-element-copy-out-other
 element-copy-out-other c = looked (c .before) .1
 
 with-rows-requires : Of tie.Need-with-rows-requires
-with-rows-requires c κs = (lost-rows c .0, lost-rows c .1, omega (arith, c .before .before .before .before .loop3-test, known (turn (loss-tests (c .before .before .before .before .before))) .high), lost-below _ _ _ _ (c .before .before .before .before .before .loop3 .inv .1) .0, lost-below _ _ _ _ (c .before .before .before .before .before .loop3 .inv .1) .1)
+with-rows-requires c κs = (lost-rows c .0, lost-rows c .1, omega (arith, c .before .before .before .before .loop3-test, known (turn (loss-tests (c .before .before .before .before .before))) .high), lost-below (c .before .before .before .before .before .loop3 .inv .1) .0, lost-below (c .before .before .before .before .before .loop3 .inv .1) .1)
 
 add-u : Of tie.Need-add-u
 add-u c = record { fits = omega (arith, c .before .before .before .before .before .loop3-test, known (turn (loss-tests (c .before .before .before .before .before .before))) .high) }
@@ -623,7 +664,7 @@ loop3-less : Of tie.Need-loop3-less
 loop3-less c = omega (arith, c .before .before .before .before .before .loop3-test)
 
 loop3-again : Of tie.Need-loop3-again
-loop3-again c = (omega (arith, c .before .before .before .before .before .loop3-test), lost-more _ _ _ _ (c .before .before .before .before .before .before .loop3 .inv .1) _ _ _ (lost-read (c .before) .0) (lost-read (c .before) .1) (c .with-rows .ensures .0) (c .with-rows .ensures .1 .0) (c .with-rows .ensures .1 .1))
+loop3-again c = (omega (arith, c .before .before .before .before .before .loop3-test), lost-more (c .before .before .before .before .before .before .loop3 .inv .1) (lost-read (c .before) .0) (lost-read (c .before) .1) (c .with-rows .ensures .0) (c .with-rows .ensures .1 .0) (c .with-rows .ensures .1 .1))
 
 left-of-requires : Of tie.Need-left-of-requires
 left-of-requires c κs = (known (turn (loss-tests (c .before))) .air-count, λ e. there (loss-of (c .before) .before) e)
@@ -656,26 +697,25 @@ line-requires-4 : Of tie.Need-line-requires-4
 line-requires-4 c κs = search needs
 
 mul-lines-4 : Of tie.Need-mul-lines-4
-mul-lines-4 c = record { fits = omega (arith, entered (cut-tests (c .before .before .before)) .loop-test, begin (turn (cut-tests (c .before .before .before))) .pre .1) }
+mul-lines-4 c = record { fits = omega (arith, among (cut-tests (c .before .before .before))) }
 
 slice-write-lines-4 : Of tie.Need-slice-write-lines-4
 slice-write-lines-4 c = room (entered (cut-tests (c .before .before .before)))
 
 loop-less-4 : Of tie.Need-loop-less-4
-loop-less-4 c = omega (arith, entered (cut-tests (c .before .before .before)) .loop-test)
+loop-less-4 c = omega (arith, among (cut-tests (c .before .before .before)))
 
 loop-again-4 : Of tie.Need-loop-again-4
-loop-again-4 c = (
-  omega (arith, entered (cut-tests (c .before .before .before)) .loop-test),
-  turn-more _ _ _ _ _ _ _ _ _ (turn (cut-tests (c .before .before .before)) .loop .inv .1) _ _ _ (given (cut-tests (c .before .before .before)) .event-at .ensures) _ _ _ _ _ _ _ (c .line4 .ensures) (turn (cut-tests (c .before .before .before)) .loop .inv .1 .shape)
-      (cut-7 _ _ _ _ _ _ _ (tested (cut-tests (c .before .before .before))) (cut-passed (c .before .before .before) .if1 .left) _ _ _ _ _ _ _ (pieces (c .before .before .before)) _ _ _ (cut-stays (c .before .before .before) .left-of .ensures) (c .before .before .before .before .copies .ensures) (c .before .before .before .copies2 .ensures) (over (c .before))),
-)
+loop-again-4 c =
+    ended (cut-tests (c .before .before .before)) (c .line4 .ensures) (as-before (cut-tests (c .before .before .before)))
+    (cut-7 (tested (cut-tests (c .before .before .before))) (cut-passed (c .before .before .before) .if1 .left) (pieces (c .before .before .before))
+    (cut-stays (c .before .before .before) .left-of .ensures) (c .before .before .before .before .copies .ensures) (c .before .before .before .copies2 .ensures) (over (c .before)))
 
 turns-of-requires : Of tie.Need-turns-of-requires
 turns-of-requires c κs = search needs
 
 loop4-holds : Of tie.Need-loop4-holds
-loop4-holds c = (omega arith, refl, cut-none _ (ends (cut-at (c .before .before .before)) .2) _)
+loop4-holds c = (omega arith, refl, cut-none (ends (cut-at (c .before .before .before)) .2))
 
 place-requires-5 : Of tie.Need-place-requires-5
 place-requires-5 c κs = search needs
@@ -724,7 +764,7 @@ loop4-again c = (
   omega (arith, c .before .before .before .before .before .before .loop4-test),
   ap (λ (m : Memory). with-rows m (set (set (c .before .before .before .before .before .before .before .loop4 .memory .rows) (c .before .before .before .before .before .place5 .result) (c .before .cut-row .result)) (c .before .before .before .before .place6 .result) (c .cut-row2 .result))) (c .before .before .before .before .before .before .before .loop4 .inv .1),
   rw (c .before .before .before .before .before .place5 .ensures, c .before .before .before .before .place6 .ensures)
-      (cut-more _ (ends (cut-at (cuts (c .before .before .before .before))) .2) _ _ (omega (arith, placed (c .before .before .before .before), known (turn (cut-tests (cuts (c .before .before .before .before)))) .high)) _ (c .before .before .before .before .before .before .before .loop4 .inv .2) _ _ (rw (same-rows (c .before .before) .0) at (c .before .cut-row .ensures)) (rw (same-rows (c .before .before) .1) at (c .cut-row2 .ensures))),
+      (cut-more (ends (cut-at (cuts (c .before .before .before .before))) .2) (omega (arith, placed (c .before .before .before .before), known (turn (cut-tests (cuts (c .before .before .before .before)))) .high)) (c .before .before .before .before .before .before .before .loop4 .inv .2) _ _ (rw (same-rows (c .before .before) .0) at (c .before .cut-row .ensures)) (rw (same-rows (c .before .before) .1) at (c .cut-row2 .ensures))),
 )
 
 add-total : Of tie.Need-add-total
@@ -743,7 +783,7 @@ line-requires-5 : Of tie.Need-line-requires-5
 line-requires-5 c κs = search needs
 
 mul-lines-5 : Of tie.Need-mul-lines-5
-mul-lines-5 c = record { fits = omega (arith, entered (cut-tests (decided c)) .loop-test, begin (turn (cut-tests (decided c))) .pre .1) }
+mul-lines-5 c = record { fits = omega (arith, among (cut-tests (decided c))) }
 
 slice-write-lines-5 : Of tie.Need-slice-write-lines-5
 slice-write-lines-5 c = room (entered (cut-tests (decided c)))
@@ -751,38 +791,26 @@ slice-write-lines-5 c = room (entered (cut-tests (decided c)))
 parted-requires : Of tie.Need-parted-requires
 parted-requires c κs = let high = known (turn (cut-tests (decided (c .before)))) .high in (
   (high, omega (arith, ends (cut-at (decided (c .before))), high), omega (arith, ends (cut-at (decided (c .before))), high), known (turn (cut-tests (decided (c .before)))) .air-count),
-  omega (arith, fits (c .before .before .before .before .before .before), cut-stays (decided (c .before)) .left-of .ensures ∙ ap length (rest-down _ _ _ _ _ _ (c .if7 .taken)), decided (c .before) .before .copies .ensures, decided (c .before) .copies2 .ensures),
+  omega (arith, fits (cut-has-room (c .before)), cut-stays (decided (c .before)) .left-of .ensures ∙ ap length (rest-down _ _ _ _ _ _ (c .if7 .taken)), decided (c .before) .before .copies .ensures, decided (c .before) .copies2 .ensures),
 )
 
 exchange-requires : Of tie.Need-exchange-requires
 exchange-requires c κs = let high = known (turn (cut-tests (decided (c .before)))) .high in
     let at = there (cut-arm (decided (c .before))) (c .if7 .left) in
     let last = cut-stays (decided (c .before)) .left-of .ensures ∙ rest-one-less _ _ _ _ _ _ (c .if7 .left) at in
-    ((high, omega (arith, ends (cut-at (decided (c .before))), high), omega (arith, last, at), omega (arith, last, at, known (turn (cut-tests (decided (c .before)))) .air-count)), omega (arith, fits (c .before .before .before .before .before .before), decided (c .before) .before .copies .ensures))
+    ((high, omega (arith, ends (cut-at (decided (c .before))), high), omega (arith, last, at), omega (arith, last, at, known (turn (cut-tests (decided (c .before)))) .air-count)), omega (arith, fits (cut-has-room (c .before)), decided (c .before) .before .copies .ensures))
 
 loop-less-5 : Of tie.Need-loop-less-5
-loop-less-5 c = omega (arith, entered (cut-tests (decided (c .before .before))) .loop-test)
+loop-less-5 c = omega (arith, among (cut-tests (decided (c .before .before))))
 
 loop-again-5 : Of tie.Need-loop-again-5
-loop-again-5 c = let start = begin (turn (cut-tests (decided (c .before .before)))) .args in (
-  omega (arith, entered (cut-tests (decided (c .before .before))) .loop-test),
-  subst (λ (m : Memory). Turn (start .t1) (start .kinds .now) (start .operands .now) (start .lines .now) (set (turn (cut-tests (decided (c .before .before))) .loop .lines) (turn (cut-tests (decided (c .before .before))) .loop .i) (c .before .before .line5 .result)) (linked m (links (decided (c .before .before)))) (c .parted .result) (cut-stays (decided (c .before .before)) .left-of .result + decided (c .before .before) .before .copies .result + decided (c .before .before) .copies2 .result) (turn (cut-tests (decided (c .before .before))) .loop .i + 1)) (sym (c .before .before .before .before .before .loop4 .inv .1))
-      (turn-more _ _ _ _ _ _ _ _ _ (turn (cut-tests (decided (c .before .before))) .loop .inv .1) _ _ _ (given (cut-tests (decided (c .before .before))) .event-at .ensures) _ _ _ _ _ _ _ (c .before .before .line5 .ensures)
-      (next-shape _ _ _ _ _ _ _ (tested (cut-tests (decided (c .before .before)))) (cut-passed (decided (c .before .before)) .if1 .left) _ _ _ _ _ _ _ (pieces (decided (c .before .before))) _ _ _ (cut-rows (c .before .before .before .before)) (array-length (c .parted .result) (c .parted .ok)))
-      (cut-happens _ _ _ _ _ _ _ (tested (cut-tests (decided (c .before .before)))) (cut-passed (decided (c .before .before)) .if1 .left) _ _ _ _ _ _ _ (pieces (decided (c .before .before))) _ _ _ (cut-stays (decided (c .before .before)) .left-of .ensures) (decided (c .before .before) .before .copies .ensures) (decided (c .before .before) .copies2 .ensures) _ _ _ (fits (c .before .before .before .before .before .before .before)) (cut-rows (c .before .before .before .before)) (inl (c .before .if7 .taken, c .parted .ensures)) (c .before .before .before .cut-answer .ensures))),
-)
+loop-again-5 c = cut-ended (c .before .before) _ (array-length (c .parted .result) (c .parted .ok)) (inl (c .before .if7 .taken, c .parted .ensures))
 
 loop-less-6 : Of tie.Need-loop-less-6
-loop-less-6 c = omega (arith, entered (cut-tests (decided (c .before .before))) .loop-test)
+loop-less-6 c = omega (arith, among (cut-tests (decided (c .before .before))))
 
 loop-again-6 : Of tie.Need-loop-again-6
-loop-again-6 c = let start = begin (turn (cut-tests (decided (c .before .before)))) .args in (
-  omega (arith, entered (cut-tests (decided (c .before .before))) .loop-test),
-  subst (λ (m : Memory). Turn (start .t1) (start .kinds .now) (start .operands .now) (start .lines .now) (set (turn (cut-tests (decided (c .before .before))) .loop .lines) (turn (cut-tests (decided (c .before .before))) .loop .i) (c .before .before .line5 .result)) (linked m (links (decided (c .before .before)))) (c .exchange .result) (cut-stays (decided (c .before .before)) .left-of .result + decided (c .before .before) .before .copies .result + decided (c .before .before) .copies2 .result) (turn (cut-tests (decided (c .before .before))) .loop .i + 1)) (sym (c .before .before .before .before .before .loop4 .inv .1))
-      (turn-more _ _ _ _ _ _ _ _ _ (turn (cut-tests (decided (c .before .before))) .loop .inv .1) _ _ _ (given (cut-tests (decided (c .before .before))) .event-at .ensures) _ _ _ _ _ _ _ (c .before .before .line5 .ensures)
-      (next-shape _ _ _ _ _ _ _ (tested (cut-tests (decided (c .before .before)))) (cut-passed (decided (c .before .before)) .if1 .left) _ _ _ _ _ _ _ (pieces (decided (c .before .before))) _ _ _ (cut-rows (c .before .before .before .before)) (array-length (c .exchange .result) (c .exchange .ok)))
-      (cut-happens _ _ _ _ _ _ _ (tested (cut-tests (decided (c .before .before)))) (cut-passed (decided (c .before .before)) .if1 .left) _ _ _ _ _ _ _ (pieces (decided (c .before .before))) _ _ _ (cut-stays (decided (c .before .before)) .left-of .ensures) (decided (c .before .before) .before .copies .ensures) (decided (c .before .before) .copies2 .ensures) _ _ _ (fits (c .before .before .before .before .before .before .before)) (cut-rows (c .before .before .before .before)) (inr (c .before .if7 .left, c .exchange .ensures)) (c .before .before .before .cut-answer .ensures))),
-)
+loop-again-6 c = cut-ended (c .before .before) _ (array-length (c .exchange .result) (c .exchange .ok)) (inr (c .before .if7 .left, c .exchange .ensures))
 
 -- Every other call.
 place-requires-7 : Of tie.Need-place-requires-7
@@ -828,7 +856,7 @@ label-of-requires : Of tie.Need-label-of-requires
 label-of-requires c κs = search needs
 
 change-of-requires : Of tie.Need-change-of-requires
-change-of-requires c κs = (λ e. unused _ _ _ _ _ _ _ _ _ _ _ (looks c) e, λ e. arrived _ _ _ _ _ _ _ _ _ _ _ (looks c) e)
+change-of-requires c κs = (λ e. unused (looks c) e, λ e. arrived (looks c) e)
 
 stay-requires : Of tie.Need-stay-requires
 stay-requires c κs = λ d. omega (arith, gone (c .before) d)
@@ -843,20 +871,18 @@ line-requires-6 : Of tie.Need-line-requires-6
 line-requires-6 c κs = search needs
 
 mul-lines-6 : Of tie.Need-mul-lines-6
-mul-lines-6 c = record { fits = omega (arith, entered (change-tests (c .before .before .before)) .loop-test, begin (turn (change-tests (c .before .before .before))) .pre .1) }
+mul-lines-6 c = record { fits = omega (arith, among (change-tests (c .before .before .before))) }
 
 slice-write-lines-6 : Of tie.Need-slice-write-lines-6
 slice-write-lines-6 c = room (entered (change-tests (c .before .before .before)))
 
 loop-less-7 : Of tie.Need-loop-less-7
-loop-less-7 c = omega (arith, entered (change-tests (c .before .before .before)) .loop-test)
+loop-less-7 c = omega (arith, among (change-tests (c .before .before .before)))
 
 loop-again-7 : Of tie.Need-loop-again-7
-loop-again-7 c = (
-  omega (arith, entered (change-tests (c .before .before .before)) .loop-test),
-  turn-more _ _ _ _ _ _ _ _ _ (turn (change-tests (c .before .before .before)) .loop .inv .1) _ _ _ (given (change-tests (c .before .before .before)) .event-at .ensures) _ _ _ _ _ _ _ (c .line6 .ensures) (turn (change-tests (c .before .before .before)) .loop .inv .1 .shape)
-      (change-7 _ _ _ _ _ _ _ _ _ _ _ (looks (change-held (c .before .before .before))) _ (c .before .before .before .before .before .before .change-of .ensures) _ _ (c .before .before .before .before .stay .ensures) (c .before .before .before .copies3 .ensures) (over-two (c .before))),
-)
+loop-again-7 c =
+    ended (change-tests (c .before .before .before)) (c .line6 .ensures) (as-before (change-tests (c .before .before .before)))
+    (change-7 (looks (change-held (c .before .before .before))) (c .before .before .before .before .before .before .change-of .ensures) (c .before .before .before .before .stay .ensures) (c .before .before .before .copies3 .ensures) (over-two (c .before)))
 
 mul-memory : Of tie.Need-mul-memory
 mul-memory c = record { fits = omega (arith, spots (change-cells (c .before .before .before .before .before .before .before))) }
@@ -910,7 +936,7 @@ line-requires-7 : Of tie.Need-line-requires-7
 line-requires-7 c κs = search needs
 
 mul-lines-7 : Of tie.Need-mul-lines-7
-mul-lines-7 c = record { fits = omega (arith, entered (change-tests (chosen c)) .loop-test, begin (turn (change-tests (chosen c))) .pre .1) }
+mul-lines-7 c = record { fits = omega (arith, among (change-tests (chosen c))) }
 
 slice-write-lines-7 : Of tie.Need-slice-write-lines-7
 slice-write-lines-7 c = room (entered (change-tests (chosen c)))
@@ -918,36 +944,26 @@ slice-write-lines-7 c = room (entered (change-tests (chosen c)))
 exchange-requires-2 : Of tie.Need-exchange-requires-2
 exchange-requires-2 c κs = let last = chosen (c .before) .before .stay .ensures ∙ ap (λ (drops : Bool). if drops then turn (change-tests (chosen (c .before))) .loop .count - 1 else turn (change-tests (chosen (c .before))) .loop .count) (c .if9 .taken) in
     let at = gone (chosen (c .before) .before .before .before) (c .if9 .taken) in
-    ((known (turn (change-tests (chosen (c .before)))) .high, inside (looked-at (change-tests (chosen (c .before)))) .0, omega (arith, last, at), omega (arith, last, at, known (turn (change-tests (chosen (c .before)))) .air-count)), omega (arith, fits-two (c .before .before .before .before .before .before .before .before), chosen (c .before) .copies3 .ensures))
+    ((known (turn (change-tests (chosen (c .before)))) .high, inside (looked-at (change-tests (chosen (c .before)))) .0, omega (arith, last, at), omega (arith, last, at, known (turn (change-tests (chosen (c .before)))) .air-count)), omega (arith, fits-two (has-room (c .before)), chosen (c .before) .copies3 .ensures))
 
 loop-less-8 : Of tie.Need-loop-less-8
-loop-less-8 c = omega (arith, entered (change-tests (chosen (c .before .before))) .loop-test)
+loop-less-8 c = omega (arith, among (change-tests (chosen (c .before .before))))
 
 loop-again-8 : Of tie.Need-loop-again-8
-loop-again-8 c = (
-  omega (arith, entered (change-tests (chosen (c .before .before))) .loop-test),
-  turn-more _ _ _ _ _ _ _ _ _ (turn (change-tests (chosen (c .before .before))) .loop .inv .1) _ _ _ (given (change-tests (chosen (c .before .before))) .event-at .ensures) _ _ _ _ _ _ _ (c .before .before .line7 .ensures)
-      (changed-shape _ _ _ _ _ _ _ _ _ _ _ (looks (change-held (chosen (c .before .before)))) _ (chosen (c .before .before) .before .before .before .change-of .ensures) _ _ (array-length (c .exchange2 .result) (c .exchange2 .ok)))
-      (change-happens _ _ _ _ _ _ _ _ _ _ _ (looks (change-held (chosen (c .before .before)))) _ (chosen (c .before .before) .before .before .before .change-of .ensures) _ _ (chosen (c .before .before) .before .stay .ensures) (chosen (c .before .before) .copies3 .ensures) _ (c .before .before .before .told .ensures) _ (fits-two (c .before .before .before .before .before .before .before .before .before)) (inl (c .before .if9 .taken, c .exchange2 .ensures))),
-)
+loop-again-8 c = change-ended (c .before .before) _ (array-length (c .exchange2 .result) (c .exchange2 .ok)) (inl (c .before .if9 .taken, c .exchange2 .ensures))
 
 transmit-requires : Of tie.Need-transmit-requires
-transmit-requires c κs = ((known (turn (change-tests (chosen (c .before)))) .high, inside (looked-at (change-tests (chosen (c .before)))) .0), omega (arith, fits-two (c .before .before .before .before .before .before .before .before), chosen (c .before) .copies3 .ensures))
+transmit-requires c κs = ((known (turn (change-tests (chosen (c .before)))) .high, inside (looked-at (change-tests (chosen (c .before)))) .0), omega (arith, fits-two (has-room (c .before)), chosen (c .before) .copies3 .ensures))
 
 loop-less-9 : Of tie.Need-loop-less-9
-loop-less-9 c = omega (arith, entered (change-tests (chosen (c .before .before))) .loop-test)
+loop-less-9 c = omega (arith, among (change-tests (chosen (c .before .before))))
 
 loop-again-9 : Of tie.Need-loop-again-9
-loop-again-9 c = (
-  omega (arith, entered (change-tests (chosen (c .before .before))) .loop-test),
-  turn-more _ _ _ _ _ _ _ _ _ (turn (change-tests (chosen (c .before .before))) .loop .inv .1) _ _ _ (given (change-tests (chosen (c .before .before))) .event-at .ensures) _ _ _ _ _ _ _ (c .before .before .line7 .ensures)
-      (changed-shape _ _ _ _ _ _ _ _ _ _ _ (looks (change-held (chosen (c .before .before)))) _ (chosen (c .before .before) .before .before .before .change-of .ensures) _ _ (array-length (c .transmit .result) (c .transmit .ok)))
-      (change-happens _ _ _ _ _ _ _ _ _ _ _ (looks (change-held (chosen (c .before .before)))) _ (chosen (c .before .before) .before .before .before .change-of .ensures) _ _ (chosen (c .before .before) .before .stay .ensures) (chosen (c .before .before) .copies3 .ensures) _ (c .before .before .before .told .ensures) _ (fits-two (c .before .before .before .before .before .before .before .before .before)) (inr (c .before .if9 .left, c .transmit .ensures))),
-)
+loop-again-9 c = change-ended (c .before .before) _ (array-length (c .transmit .result) (c .transmit .ok)) (inr (c .before .if9 .left, c .transmit .ensures))
 
 -- After the last event.
 same-length : Of tie.Need-same-length
-same-length c = turn-length _ _ _ _ _ _ _ _ _ (c .before .loop .inv .1)
+same-length c = turn-length (c .before .loop .inv .1)
 
 returns : Of tie.Need-returns
 returns c = let last : c .before .loop .i ≡ length (begin (c .before) .args .kinds .now) = omega (arith, c .before .loop .inv .0, c .loop-test) in
