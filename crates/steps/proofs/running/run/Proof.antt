@@ -97,6 +97,9 @@ light-tests c = c .before .before .before .before .before .before
 abbrev hop-tests : Of tie.After-place2 → Of tie.After-class-of
 hop-tests c = c .before .before .before .before .before .before .before .before
 
+abbrev trace-tests : Of tie.Then3 → Of tie.After-class-of
+trace-tests c = c .before .before .before
+
 abbrev hop-arm : Of tie.After-place2 → Of tie.Then3
 hop-arm c = c .before .before .before .before .before
 
@@ -111,6 +114,9 @@ loss-tests c = c .before .before .before .before .before .before .before .before
 
 abbrev loss-of : Of tie.At-loop3 → Of tie.After-cut-of
 loss-of c = c .before .before .before .before
+
+abbrev reading : Of tie.After-other → Of tie.At-loop3
+reading c = c .before .before .before .before .before
 
 abbrev cut-tests : Of tie.After-copies2 → Of tie.After-class-of
 cut-tests c = c .before .before .before .before .before .before .before .before .before .before .before .before .before .before .before .before .before
@@ -204,12 +210,16 @@ start-shape c = let long = memory-lengths (c .args .t1) (c .good .0) in record {
   packets-length = long .air-length;
 }
 
+-- There are at most 16 stations.
+few-stations : (c : Of tie.After-class-of) → turn c .loop .memory .n ≤ 16
+few-stations c = known (turn c) .high
+
 -- Past the tests.
 tested : (c : Of tie.After-class-of) → let e = given c .event-at .result in let t = turn c .loop in Tested (t .memory) (t .packets) (t .count) (e .kind) (e .a) (e .b) (c .before .refusal .result)
 tested c = record {
   shape = turn c .loop .inv .1 .shape;
   ranged = ranged (turn c);
-  tests = c .before .refusal .ensures (view (memory (turn c))) (seen (turn c .loop .memory) (turn c .loop .packets) (turn c .loop .count) (looked-at c .spot-of .result) (ranged (turn c)) (known (turn c) .high) (looked-at c .spot-of .ensures .0) (paired c .pair-place .ensures));
+  tests = c .before .refusal .ensures (view (memory (turn c))) (seen (turn c .loop .memory) (turn c .loop .packets) (turn c .loop .count) (looked-at c .spot-of .result) (ranged (turn c)) (few-stations c) (looked-at c .spot-of .ensures .0) (paired c .pair-place .ensures));
 }
 
 -- The event is one of at most 4,096.
@@ -243,13 +253,15 @@ shrunk : (c : Of tie.After-line2) → let row = getD (turn (light-tests c) .loop
 shrunk c = ap (shrink (getD (turn (light-tests c) .loop .memory .rows) (c .before .before .before .place .result) zeroRow)) (c .before .expired .ensures)
 
 -- Trace: its stations, and where it is.
-ends-below : (c : Of tie.Then3) → let w = looked-at (c .before .before .before) .spot-of .result in let n = turn (c .before .before .before) .loop .memory .n in (w .station < n) × (w .destination < n)
-ends-below c = trace-below (tested (c .before .before .before)) (c .before .before .if1 .left) _ (sym (c .before .before .before .class-of .ensures) ∙ c .if3 .taken) (looked-at (c .before .before .before) .spot-of .result) (looked-at (c .before .before .before) .spot-of .ensures .0)
+ends-below : (c : Of tie.Then3) → let w = looked-at (trace-tests c) .spot-of .result in let n = turn (trace-tests c) .loop .memory .n in (w .station < n) × (w .destination < n)
+ends-below c =
+    let spot = looked-at (trace-tests c) .spot-of in
+    trace-below (tested (trace-tests c)) (c .before .before .if1 .left) _ (sym (trace-tests c .class-of .ensures) ∙ c .if3 .taken) (spot .result) (spot .ensures .0)
 
 here : (c : Of tie.After-place2) → (c .before .before .before .loop2 .walk .at < turn (hop-tests c) .loop .memory .n) × (c .place2 .result < 256)
 here c =
     let at = c .before .before .before .loop2 .inv .0 (c .before .if4 .taken) in
-    (at .0, omega (arith, c .place2 .ensures, at .0, ends-below (hop-arm c) .1, known (turn (hop-tests c)) .high))
+    (at .0, omega (arith, c .place2 .ensures, at .0, ends-below (hop-arm c) .1, few-stations (hop-tests c)))
 
 walk-less : (answer hops hops′ limit : ℕ) → (answer ≡ 0 → (hops < limit) × (hops′ ≡ hops + 1)) → (if eqb answer 0 then suc (limit - hops′) else 0) < suc (limit - hops)
 walk-less answer hops hops′ limit h = go (eqb answer 0) refl
@@ -259,16 +271,23 @@ walk-less answer hops hops′ limit h = go (eqb answer 0) refl
     go false e = omega arith
 
 -- Where the walk is, and where it goes.
-standing : (c : Of tie.After-advance) → let m = memory (turn (hop-tests (c .before .before))) in
-    rowAt (view m) (c .before .before .before .before .before .loop2 .walk .at) (looked-at (hop-tests (c .before .before)) .spot-of .result .destination) ≡ rowOf (getD (m .rows) (c .before .before .place2 .result) zeroRow)
-unfolding view
-standing c = let rows = turn (hop-tests (c .before .before)) .loop .memory .rows in row-at rows _ ∙ ap (λ (x : ℕ). rowOf (getD rows x zeroRow)) (sym (c .before .before .place2 .ensures))
+module _ (c : Of tie.After-advance) where
+  abbrev hop : Of tie.After-place2
+  hop = c .before .before
 
-walked : (c : Of tie.After-advance) → c .advance .result .answer ≡ 0 → (c .advance .result .at < turn (hop-tests (c .before .before)) .loop .memory .n) × (c .advance .result .hops ≤ c .before .before .before .before .before .before .most-hops .result)
-walked c e =
-    let g = c .advance .ensures .1 e in
-    let next = known (turn (hop-tests (c .before .before))) .successor _ _ 0 (here (c .before .before) .0) (ends-below (hop-arm (c .before .before)) .1) (rw (c .before .before .place2 .ensures) at (g .filled)) in
-    (omega (arith, g .at ∙ ap (λ (x : ℕ). getD (getD (turn (hop-tests (c .before .before)) .loop .memory .rows) x zeroRow .stations) 0 0) (c .before .before .place2 .ensures), next), omega (arith, g .hops, g .below))
+  abbrev now : Memory
+  now = memory (turn (hop-tests hop))
+
+  standing : rowAt (view now) (hop .before .before .before .loop2 .walk .at) (looked-at (hop-tests hop) .spot-of .result .destination) ≡ rowOf (getD (now .rows) (hop .place2 .result) zeroRow)
+  unfolding view
+  standing = row-at (now .rows) _ ∙ ap (λ (x : ℕ). rowOf (getD (now .rows) x zeroRow)) (sym (hop .place2 .ensures))
+
+  walked : c .advance .result .answer ≡ 0 → (c .advance .result .at < now .n) × (c .advance .result .hops ≤ hop .before .before .before .before .most-hops .result)
+  walked e =
+      let g = c .advance .ensures .1 e in
+      let next = known (turn (hop-tests hop)) .successor _ _ 0 (here hop .0) (ends-below (hop-arm hop) .1) (rw (hop .place2 .ensures) at (g .filled)) in
+      let first = ap (λ (x : ℕ). getD (getD (now .rows) x zeroRow .stations) 0 0) (hop .place2 .ensures) in
+      (omega (arith, g .at ∙ first, next), omega (arith, g .hops, g .below))
 
 -- Rows are cut: the two stations.
 cutting : (c : Of tie.Then5) → let e = given (arm-tests c) .event-at .result in let p = getD (turn (arm-tests c) .loop .packets) (e .a % 128) zeroPacket in (e .kind ≡ 2) ⊎ ((e .kind ≡ 6) × (p .kind ≡ 3))
@@ -279,16 +298,17 @@ ends : (c : Of tie.After-cut-of) → let n = turn (arm-tests (c .before)) .loop 
 ends c = cut-below (tested (arm-tests (c .before))) (c .before .before .before .before .if1 .left) (cutting (c .before)) (c .cut-of .ensures .0) (c .cut-of .ensures .1)
 
 edge : (c : Of tie.After-pair-place2) → c .pair-place2 .result < 256
-edge c = omega (arith, c .pair-place2 .ensures, ends (c .before), known (turn (arm-tests (c .before .before))) .high)
+edge c = omega (arith, c .pair-place2 .ensures, ends (c .before), few-stations (arm-tests (c .before .before)))
 
 looked : (c : Of tie.After-place4) → (c .before .place3 .result < 256) × (c .place4 .result < 256)
 looked c =
     let two = ends (loss-of (c .before .before .before)) in
-    let high = known (turn (loss-tests (c .before .before .before))) .high in
+    let high = few-stations (loss-tests (c .before .before .before)) in
     (omega (arith, c .before .place3 .ensures, c .before .before .loop3-test, two, high), omega (arith, c .place4 .ensures, c .before .before .loop3-test, two, high))
 
 -- The rows of the two stations at a turn.
-lost-rows : (c : Of tie.After-other) → let rows = turn (loss-tests (c .before .before .before .before .before)) .loop .memory .rows in (getD rows (c .before .before .before .place3 .result) zeroRow .count ≤ rowLimit) × (getD rows (c .before .before .place4 .result) zeroRow .count ≤ rowLimit)
+lost-rows : (c : Of tie.After-other) → let rows = turn (loss-tests (c .before .before .before .before .before)) .loop .memory .rows in
+    (getD rows (c .before .before .before .place3 .result) zeroRow .count ≤ rowLimit) × (getD rows (c .before .before .place4 .result) zeroRow .count ≤ rowLimit)
 lost-rows c =
     let two = ends (loss-of (c .before .before .before .before .before)) in
     let row-count = known (turn (loss-tests (c .before .before .before .before .before))) .row-count in
@@ -301,6 +321,13 @@ lost-read : (c : Of tie.After-other) → let rows = turn (loss-tests (c .before 
 lost-read c =
     let rows = turn (loss-tests (c .before .before .before .before .before)) .loop .memory .rows in
     (rw (c .before .before .before .place3 .ensures) (sym (row-at rows _)), rw (c .before .before .place4 .ensures) (sym (row-at rows _)))
+
+-- The two are below 16.
+both : (c : Of tie.At-loop3) → (turn (loss-tests c) .loop .memory .n ≤ 16) × (loss-of c .cut-of .result .first < 16) × (loss-of c .cut-of .result .second < 16)
+both c =
+    let two = ends (loss-of c) in
+    let high = few-stations (loss-tests c) in
+    (high, omega (arith, two, high), omega (arith, two, high))
 
 -- The error that is delivered is there.
 there : (c : Of tie.Then5) → given (arm-tests c) .event-at .result .kind ≢ 2 → given (arm-tests c) .event-at .result .a % 128 < turn (arm-tests c) .loop .count
@@ -332,8 +359,11 @@ pieces c =
 -- Few packets are sent, and few stay.
 few : (c : Of tie.After-copies2) → (cut-stays c .left-of .result ≤ 128) × (c .before .copies .result ≤ 16) × (c .copies2 .result ≤ 16)
 few c =
-    let k = known (turn (cut-tests c)) in (
-      omega (arith, cut-stays c .left-of .ensures, rest-few (given (cut-tests c) .event-at .result .kind) (turn (cut-tests c) .loop .packets) (turn (cut-tests c) .loop .count) (given (cut-tests c) .event-at .result .a % 128) (cut-at c .cut-of .result .first) (cut-at c .cut-of .result .second) (there (cut-arm c)), k .air-count),
+    let k = known (turn (cut-tests c)) in
+    let e = given (cut-tests c) .event-at .result in
+    let now = turn (cut-tests c) .loop in
+    let cut = cut-at c .cut-of .result in (
+      omega (arith, cut-stays c .left-of .ensures, rest-few (e .kind) (now .packets) (now .count) (e .a % 128) (cut .first) (cut .second) (there (cut-arm c)), k .air-count),
       rw (c .before .copies .ensures) (sent-few _ _ _ _ _ (k .high)),
       rw (c .copies2 .ensures) (sent-few _ _ _ _ _ (k .high)),
     )
@@ -353,30 +383,38 @@ turned false n = omega arith
 placed : (c : Of tie.After-place6) → (c .before .before .before .loop4 .v < turn (cut-tests (cuts c)) .loop .memory .n) × (c .before .place5 .result < 256) × (c .place6 .result < 256)
 placed c =
     let n = turn (cut-tests (cuts c)) .loop .memory .n in
-    let high = known (turn (cut-tests (cuts c))) .high in
+    let high = few-stations (cut-tests (cuts c)) in
     let two = ends (cut-at (cuts c)) in
     let below : c .before .before .before .loop4 .v < n = omega (arith, c .before .before .loop4-test, c .before .before .before .before .turns-of .ensures, turned (cut-rows-read (cuts c) .loop3 .losses .removed) n) in
     (below, omega (arith, c .before .place5 .ensures, two, below, high), omega (arith, c .place6 .ensures, two, below, high))
 
 -- The rows that are read at a turn of the cut are as they were.
-same-rows : (c : Of tie.After-other2) → let rows = c .before .before .before .before .before .loop4 .memory .rows in let before = turn (cut-tests (cuts (c .before .before))) .loop .memory .rows in let cut = cut-at (cuts (c .before .before)) .cut-of .result in
-    (getD rows (c .before .before .before .place5 .result) zeroRow ≡ getD before (place (cut .first) (c .before .before .before .before .before .loop4 .v)) zeroRow)
-    × (getD rows (c .before .before .place6 .result) zeroRow ≡ getD before (place (cut .second) (c .before .before .before .before .before .loop4 .v)) zeroRow)
-same-rows c =
-    let k = c .before .before .before .before .before .loop4 .inv .2 in
-    let small : c .before .before .before .before .before .loop4 .v < 16 = omega (arith, placed (c .before .before) .0, known (turn (cut-tests (cuts (c .before .before)))) .high) in
-    let rows = c .before .before .before .before .before .loop4 .memory .rows in (
-      ap (λ (x : ℕ). getD rows x zeroRow) (c .before .before .before .place5 .ensures) ∙ k .mine _ (omega arith) small,
-      ap (λ (x : ℕ). getD rows x zeroRow) (c .before .before .place6 .ensures) ∙ k .theirs _ (omega arith) small,
-    )
+module _ (c : Of tie.After-other2) where
+  abbrev writing : Of tie.At-loop4
+  writing = c .before .before .before .before .before
 
-short-rows : (c : Of tie.After-other2) → let rows = c .before .before .before .before .before .loop4 .memory .rows in
-    (getD rows (c .before .before .before .place5 .result) zeroRow .count ≤ rowLimit) × (getD rows (c .before .before .place6 .result) zeroRow .count ≤ rowLimit)
-short-rows c =
-    let two = ends (cut-at (cuts (c .before .before))) in
-    let row-count = known (turn (cut-tests (cuts (c .before .before)))) .row-count in
-    let p = placed (c .before .before) in
-    (rw (same-rows c .0) (row-count _ _ (two .0) (p .0)), rw (same-rows c .1) (row-count _ _ (two .1) (p .0)))
+  abbrev mine-now : Row
+  mine-now = getD (writing .loop4 .memory .rows) (c .before .before .before .place5 .result) zeroRow
+
+  abbrev theirs-now : Row
+  theirs-now = getD (writing .loop4 .memory .rows) (c .before .before .place6 .result) zeroRow
+
+  same-rows : let before = turn (cut-tests (cuts (c .before .before))) .loop .memory .rows in let cut = cut-at (cuts (c .before .before)) .cut-of .result in
+      (mine-now ≡ getD before (place (cut .first) (writing .loop4 .v)) zeroRow) × (theirs-now ≡ getD before (place (cut .second) (writing .loop4 .v)) zeroRow)
+  same-rows =
+      let k = writing .loop4 .inv .2 in
+      let small : writing .loop4 .v < 16 = omega (arith, placed (c .before .before) .0, few-stations (cut-tests (cuts (c .before .before)))) in
+      let rows = writing .loop4 .memory .rows in (
+        ap (λ (x : ℕ). getD rows x zeroRow) (c .before .before .before .place5 .ensures) ∙ k .mine _ (omega arith) small,
+        ap (λ (x : ℕ). getD rows x zeroRow) (c .before .before .place6 .ensures) ∙ k .theirs _ (omega arith) small,
+      )
+
+  short-rows : (mine-now .count ≤ rowLimit) × (theirs-now .count ≤ rowLimit)
+  short-rows =
+      let two = ends (cut-at (cuts (c .before .before))) in
+      let row-count = known (turn (cut-tests (cuts (c .before .before)))) .row-count in
+      let p = placed (c .before .before) in
+      (rw (same-rows .0) (row-count _ _ (two .0) (p .0)), rw (same-rows .1) (row-count _ _ (two .1) (p .0)))
 
 -- The rows after the cut.
 cut-rows : (c : Of tie.After-loop4) → let m = turn (cut-tests (all-cut c)) .loop .memory in let cut = cut-at (all-cut c) .cut-of .result in
@@ -406,7 +444,9 @@ module _ (c : Of tie.After-line5) (packets : List Packet) where
 
 -- Every other call: its places, and what stands there.
 spots : (c : Of tie.After-place8) → (c .before .place7 .result < 256) × (c .place8 .result < 256)
-spots c = (omega (arith, c .before .place7 .ensures, inside (looked-at (c .before .before .before .before .before .before))), omega (arith, c .place8 .ensures, inside (looked-at (c .before .before .before .before .before .before))))
+spots c =
+    let k = inside (looked-at (c .before .before .before .before .before .before)) in
+    (omega (arith, c .before .place7 .ensures, k), omega (arith, c .place8 .ensures, k))
 
 looks : (c : Of tie.After-label-of) → let t = turn (held-tests c) .loop in let e = given (held-tests c) .event-at .result in
     Looks (t .memory) (t .packets) (t .count) (e .kind) (e .a) (e .b) (held-tests c .before .refusal .result) (looked-at (held-tests c) .spot-of .result) (held-at c .before .place7 .result) (held-at c .place8 .result) (c .label-of .result)
@@ -592,14 +632,19 @@ element-copy-out-row-2 : Of tie.Need-element-copy-out-row-2
 element-copy-out-row-2 c = here c .1
 
 advance-requires : Of tie.Need-advance-requires
-advance-requires c κs = (c .before .before .if4 .taken, c .before .before .before .before .loop2 .inv .0 (c .before .before .if4 .taken) .1, omega (arith, c .before .before .before .before .before .most-hops .ensures, known (turn (hop-tests (c .before))) .high))
+advance-requires c κs =
+    let walk = c .before .before .before .before in
+    let goes-on = c .before .before .if4 .taken in
+    (goes-on, walk .loop2 .inv .0 goes-on .1, omega (arith, walk .before .most-hops .ensures, few-stations (hop-tests (c .before))))
 
 loop2-less : Of tie.Need-loop2-less
 loop2-less c = rw (eq-eqb _ _ (c .before .before .before .if4 .taken)) (walk-less _ _ _ _ (λ e. let g = c .advance .ensures .1 e in (g .below, g .hops)))
 
 loop2-again : Of tie.Need-loop2-again
 unfolding view
-loop2-again c = (λ e. walked c e, c .advance .ensures .0 (view (memory (turn (hop-tests (c .before .before))))) (sym (c .before .before .before .before .before .before .most-hops .ensures .0)) (standing c) ∙ c .before .before .before .before .before .loop2 .inv .1)
+loop2-again c =
+    let walk = c .before .before .before .before .before in
+    (λ e. walked c e, c .advance .ensures .0 (view (now c)) (sym (walk .before .most-hops .ensures .0)) (standing c) ∙ walk .loop2 .inv .1)
 
 line-requires-3 : Of tie.Need-line-requires-3
 line-requires-3 c κs = search needs
@@ -655,16 +700,21 @@ element-copy-out-other : Of tie.Need-element-copy-out-other
 element-copy-out-other c = looked (c .before) .1
 
 with-rows-requires : Of tie.Need-with-rows-requires
-with-rows-requires c κs = (lost-rows c .0, lost-rows c .1, omega (arith, c .before .before .before .before .loop3-test, known (turn (loss-tests (c .before .before .before .before .before))) .high), lost-below (c .before .before .before .before .before .loop3 .inv .1) .0, lost-below (c .before .before .before .before .before .loop3 .inv .1) .1)
+with-rows-requires c κs =
+    let small = lost-below (reading c .loop3 .inv .1) in
+    (lost-rows c .0, lost-rows c .1, omega (arith, c .before .before .before .before .loop3-test, both (reading c)), small .0, small .1)
 
 add-u : Of tie.Need-add-u
-add-u c = record { fits = omega (arith, c .before .before .before .before .before .loop3-test, known (turn (loss-tests (c .before .before .before .before .before .before))) .high) }
+add-u c = record { fits = omega (arith, c .before .before .before .before .before .loop3-test, both (reading (c .before))) }
 
 loop3-less : Of tie.Need-loop3-less
 loop3-less c = omega (arith, c .before .before .before .before .before .loop3-test)
 
 loop3-again : Of tie.Need-loop3-again
-loop3-again c = (omega (arith, c .before .before .before .before .before .loop3-test), lost-more (c .before .before .before .before .before .before .loop3 .inv .1) (lost-read (c .before) .0) (lost-read (c .before) .1) (c .with-rows .ensures .0) (c .with-rows .ensures .1 .0) (c .with-rows .ensures .1 .1))
+loop3-again c =
+    let read = lost-read (c .before) in
+    let found = c .with-rows .ensures in
+    (omega (arith, c .before .before .before .before .before .loop3-test), lost-more (reading (c .before) .loop3 .inv .1) (read .0) (read .1) (found .0) (found .1 .0) (found .1 .1))
 
 left-of-requires : Of tie.Need-left-of-requires
 left-of-requires c κs = (known (turn (loss-tests (c .before))) .air-count, λ e. there (loss-of (c .before) .before) e)
@@ -682,10 +732,10 @@ error-scope-requires-2 : Of tie.Need-error-scope-requires-2
 error-scope-requires-2 c κs = search needs
 
 copies-requires : Of tie.Need-copies-requires
-copies-requires c κs = (known (turn (loss-tests (c .before .before .before .before .before .before))) .high, omega (arith, ends (loss-of (c .before .before .before .before .before .before)), known (turn (loss-tests (c .before .before .before .before .before .before))) .high))
+copies-requires c κs = let k = both (c .before .before .before .before .before .before) in (k .0, k .1)
 
 copies-requires-2 : Of tie.Need-copies-requires-2
-copies-requires-2 c κs = (known (turn (loss-tests (c .before .before .before .before .before .before .before))) .high, omega (arith, ends (loss-of (c .before .before .before .before .before .before .before)), known (turn (loss-tests (c .before .before .before .before .before .before .before))) .high))
+copies-requires-2 c κs = let k = both (c .before .before .before .before .before .before .before) in (k .0, k .2)
 
 add-full : Of tie.Need-add-full
 add-full c = record { fits = omega (arith, few c) }
@@ -707,9 +757,9 @@ loop-less-4 c = omega (arith, among (cut-tests (c .before .before .before)))
 
 loop-again-4 : Of tie.Need-loop-again-4
 loop-again-4 c =
-    ended (cut-tests (c .before .before .before)) (c .line4 .ensures) (as-before (cut-tests (c .before .before .before)))
-    (cut-7 (tested (cut-tests (c .before .before .before))) (cut-passed (c .before .before .before) .if1 .left) (pieces (c .before .before .before))
-    (cut-stays (c .before .before .before) .left-of .ensures) (c .before .before .before .before .copies .ensures) (c .before .before .before .copies2 .ensures) (over (c .before)))
+    let here = c .before .before .before in
+    ended (cut-tests here) (c .line4 .ensures) (as-before (cut-tests here))
+    (cut-7 (tested (cut-tests here)) (cut-passed here .if1 .left) (pieces here) (cut-stays here .left-of .ensures) (here .before .copies .ensures) (here .copies2 .ensures) (over (c .before)))
 
 turns-of-requires : Of tie.Need-turns-of-requires
 turns-of-requires c κs = search needs
@@ -736,10 +786,12 @@ element-copy-out-other-2 : Of tie.Need-element-copy-out-other-2
 element-copy-out-other-2 c = placed (c .before) .2
 
 cut-row-requires : Of tie.Need-cut-row-requires
-cut-row-requires c κs = (short-rows c .0, omega (arith, placed (c .before .before), known (turn (cut-tests (cuts (c .before .before)))) .high))
+cut-row-requires c κs = (short-rows c .0, omega (arith, placed (c .before .before), few-stations (cut-tests (cuts (c .before .before)))))
 
 cut-row-requires-2 : Of tie.Need-cut-row-requires-2
-cut-row-requires-2 c κs = (short-rows (c .before) .1, omega (arith, placed (c .before .before .before), known (turn (cut-tests (cuts (c .before .before .before)))) .high))
+cut-row-requires-2 c κs =
+    let at = c .before .before .before in
+    (short-rows (c .before) .1, omega (arith, placed at, few-stations (cut-tests (cuts at))))
 
 mul-mine : Of tie.Need-mul-mine
 mul-mine c = record { fits = omega (arith, placed (c .before .before .before .before)) }
@@ -754,18 +806,21 @@ element-set-from-theirs : Of tie.Need-element-set-from-theirs
 element-set-from-theirs c = placed (c .before .before .before .before) .2
 
 add-v : Of tie.Need-add-v
-add-v c = record { fits = omega (arith, placed (c .before .before .before .before), known (turn (cut-tests (cuts (c .before .before .before .before)))) .high) }
+add-v c = record { fits = omega (arith, placed (c .before .before .before .before), few-stations (cut-tests (cuts (c .before .before .before .before)))) }
 
 loop4-less : Of tie.Need-loop4-less
 loop4-less c = omega (arith, c .before .before .before .before .before .before .loop4-test)
 
 loop4-again : Of tie.Need-loop4-again
-loop4-again c = (
-  omega (arith, c .before .before .before .before .before .before .loop4-test),
-  ap (λ (m : Memory). with-rows m (set (set (c .before .before .before .before .before .before .before .loop4 .memory .rows) (c .before .before .before .before .before .place5 .result) (c .before .cut-row .result)) (c .before .before .before .before .place6 .result) (c .cut-row2 .result))) (c .before .before .before .before .before .before .before .loop4 .inv .1),
-  rw (c .before .before .before .before .before .place5 .ensures, c .before .before .before .before .place6 .ensures)
-      (cut-more (ends (cut-at (cuts (c .before .before .before .before))) .2) (omega (arith, placed (c .before .before .before .before), known (turn (cut-tests (cuts (c .before .before .before .before)))) .high)) (c .before .before .before .before .before .before .before .loop4 .inv .2) _ _ (rw (same-rows (c .before .before) .0) at (c .before .cut-row .ensures)) (rw (same-rows (c .before .before) .1) at (c .cut-row2 .ensures))),
-)
+loop4-again c =
+    let at = c .before .before .before .before in
+    let before = writing (c .before .before) .loop4 in
+    let small : before .v < 16 = omega (arith, placed at, few-stations (cut-tests (cuts at))) in (
+      omega (arith, c .before .before .before .before .before .before .loop4-test),
+      ap (λ (m : Memory). with-rows m (set (set (before .memory .rows) (at .before .place5 .result) (c .before .cut-row .result)) (at .place6 .result) (c .cut-row2 .result))) (before .inv .1),
+      rw (at .before .place5 .ensures, at .place6 .ensures)
+          (cut-more (ends (cut-at (cuts at)) .2) small (before .inv .2) _ _ (rw (same-rows (c .before .before) .0) at (c .before .cut-row .ensures)) (rw (same-rows (c .before .before) .1) at (c .cut-row2 .ensures))),
+    )
 
 add-total : Of tie.Need-add-total
 add-total c = record { fits = omega (arith, few (all-cut c)) }
@@ -789,16 +844,19 @@ slice-write-lines-5 : Of tie.Need-slice-write-lines-5
 slice-write-lines-5 c = room (entered (cut-tests (decided c)))
 
 parted-requires : Of tie.Need-parted-requires
-parted-requires c κs = let high = known (turn (cut-tests (decided (c .before)))) .high in (
-  (high, omega (arith, ends (cut-at (decided (c .before))), high), omega (arith, ends (cut-at (decided (c .before))), high), known (turn (cut-tests (decided (c .before)))) .air-count),
-  omega (arith, fits (cut-has-room (c .before)), cut-stays (decided (c .before)) .left-of .ensures ∙ ap length (rest-down _ _ _ _ _ _ (c .if7 .taken)), decided (c .before) .before .copies .ensures, decided (c .before) .copies2 .ensures),
-)
+parted-requires c κs =
+    let here = decided (c .before) in
+    let k = both (cut-rows-read here) in
+    let rest = cut-stays here .left-of .ensures ∙ ap length (rest-down _ _ _ _ _ _ (c .if7 .taken)) in
+    ((k .0, k .1, k .2, known (turn (cut-tests here)) .air-count), omega (arith, fits (cut-has-room (c .before)), rest, here .before .copies .ensures, here .copies2 .ensures))
 
 exchange-requires : Of tie.Need-exchange-requires
-exchange-requires c κs = let high = known (turn (cut-tests (decided (c .before)))) .high in
-    let at = there (cut-arm (decided (c .before))) (c .if7 .left) in
-    let last = cut-stays (decided (c .before)) .left-of .ensures ∙ rest-one-less _ _ _ _ _ _ (c .if7 .left) at in
-    ((high, omega (arith, ends (cut-at (decided (c .before))), high), omega (arith, last, at), omega (arith, last, at, known (turn (cut-tests (decided (c .before)))) .air-count)), omega (arith, fits (cut-has-room (c .before)), decided (c .before) .before .copies .ensures))
+exchange-requires c κs =
+    let here = decided (c .before) in
+    let k = both (cut-rows-read here) in
+    let at = there (cut-arm here) (c .if7 .left) in
+    let last = cut-stays here .left-of .ensures ∙ rest-one-less _ _ _ _ _ _ (c .if7 .left) at in
+    ((k .0, k .1, omega (arith, last, at), omega (arith, last, at, known (turn (cut-tests here)) .air-count)), omega (arith, fits (cut-has-room (c .before)), here .before .copies .ensures))
 
 loop-less-5 : Of tie.Need-loop-less-5
 loop-less-5 c = omega (arith, among (cut-tests (decided (c .before .before))))
@@ -862,7 +920,7 @@ stay-requires : Of tie.Need-stay-requires
 stay-requires c κs = λ d. omega (arith, gone (c .before) d)
 
 copies-requires-3 : Of tie.Need-copies-requires-3
-copies-requires-3 c κs = (known (turn (held-tests (c .before .before .before))) .high, inside (looked-at (held-tests (c .before .before .before))) .0)
+copies-requires-3 c κs = (few-stations (held-tests (c .before .before .before)), inside (looked-at (held-tests (c .before .before .before))) .0)
 
 full-requires-2 : Of tie.Need-full-requires-2
 full-requires-2 c κs = omega (arith, small c)
@@ -881,8 +939,9 @@ loop-less-7 c = omega (arith, among (change-tests (c .before .before .before)))
 
 loop-again-7 : Of tie.Need-loop-again-7
 loop-again-7 c =
-    ended (change-tests (c .before .before .before)) (c .line6 .ensures) (as-before (change-tests (c .before .before .before)))
-    (change-7 (looks (change-held (c .before .before .before))) (c .before .before .before .before .before .before .change-of .ensures) (c .before .before .before .before .stay .ensures) (c .before .before .before .copies3 .ensures) (over-two (c .before)))
+    let here = c .before .before .before in
+    ended (change-tests here) (c .line6 .ensures) (as-before (change-tests here))
+    (change-7 (looks (change-held here)) (here .before .before .before .change-of .ensures) (here .before .stay .ensures) (here .copies3 .ensures) (over-two (c .before)))
 
 mul-memory : Of tie.Need-mul-memory
 mul-memory c = record { fits = omega (arith, spots (change-cells (c .before .before .before .before .before .before .before))) }
@@ -942,9 +1001,15 @@ slice-write-lines-7 : Of tie.Need-slice-write-lines-7
 slice-write-lines-7 c = room (entered (change-tests (chosen c)))
 
 exchange-requires-2 : Of tie.Need-exchange-requires-2
-exchange-requires-2 c κs = let last = chosen (c .before) .before .stay .ensures ∙ ap (λ (drops : Bool). if drops then turn (change-tests (chosen (c .before))) .loop .count - 1 else turn (change-tests (chosen (c .before))) .loop .count) (c .if9 .taken) in
-    let at = gone (chosen (c .before) .before .before .before) (c .if9 .taken) in
-    ((known (turn (change-tests (chosen (c .before)))) .high, inside (looked-at (change-tests (chosen (c .before)))) .0, omega (arith, last, at), omega (arith, last, at, known (turn (change-tests (chosen (c .before)))) .air-count)), omega (arith, fits-two (has-room (c .before)), chosen (c .before) .copies3 .ensures))
+exchange-requires-2 c κs =
+    let here = chosen (c .before) in
+    let tests = change-tests here in
+    let count = turn tests .loop .count in
+    let last = here .before .stay .ensures ∙ ap (λ (drops : Bool). if drops then count - 1 else count) (c .if9 .taken) in
+    let at = gone (here .before .before .before) (c .if9 .taken) in (
+      (few-stations tests, inside (looked-at tests) .0, omega (arith, last, at), omega (arith, last, at, known (turn tests) .air-count)),
+      omega (arith, fits-two (has-room (c .before)), here .copies3 .ensures),
+    )
 
 loop-less-8 : Of tie.Need-loop-less-8
 loop-less-8 c = omega (arith, among (change-tests (chosen (c .before .before))))
@@ -953,7 +1018,9 @@ loop-again-8 : Of tie.Need-loop-again-8
 loop-again-8 c = change-ended (c .before .before) _ (array-length (c .exchange2 .result) (c .exchange2 .ok)) (inl (c .before .if9 .taken, c .exchange2 .ensures))
 
 transmit-requires : Of tie.Need-transmit-requires
-transmit-requires c κs = ((known (turn (change-tests (chosen (c .before)))) .high, inside (looked-at (change-tests (chosen (c .before)))) .0), omega (arith, fits-two (has-room (c .before)), chosen (c .before) .copies3 .ensures))
+transmit-requires c κs =
+    let here = chosen (c .before) in
+    ((few-stations (change-tests here), inside (looked-at (change-tests here)) .0), omega (arith, fits-two (has-room (c .before)), here .copies3 .ensures))
 
 loop-less-9 : Of tie.Need-loop-less-9
 loop-less-9 c = omega (arith, among (change-tests (chosen (c .before .before))))
