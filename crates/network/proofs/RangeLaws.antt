@@ -10,7 +10,6 @@ use borrow.Author.Tests.{lt-ltb, leb-true}
 use Rattle.base.specs.Lists.{allBelow, someIn, tabulate, indexOf, distinct}
 use Rattle.base.proofs.Booleans.{both, Trichotomy, less, equal, more, trichotomy}
 use Rattle.base.proofs.Loops.{tabulate-length, index-within, index-outside, all-pairs, all-square, distinct-tabulate}
-use Rattle.model.specs.Memory as model
 use Rattle.model.specs.Memory.{Successor, names, stations, headInRange, bodyInRange, sizeInRange, cellInRange, placeInRange, airInRange}
 use Rattle.model.specs.Memory.{stationInRange, memoryInRange}
 use Rattle.rows.specs.declared.Row.{Row}

@@ -12,7 +12,7 @@ use Rattle.base.proofs.Results.{refuse-holds, refuse-passes}
 use Rattle.label.specs.declared.Label.{Label}
 use Rattle.model.specs.Memory as model
 use Rattle.model.specs.Memory.{Network, place, request, setNumbers, setSoughts, setActives, setAir, airLimit}
-use Rattle.model.specs.Calls.{Solicit, Lose, Duplicate, Effect, effect, limited, notPacket, packet, send, sending, neighbours, copies, solicit, removePacket, step}
+use Rattle.model.specs.Calls.{Solicit, Lose, Duplicate, Effect, effect, limited, notPacket, send, sending, neighbours, copies, solicit, removePacket, step}
 use Rattle.model.specs.Events.{calls, eventOf}
 use Rattle.model.proofs.Refusals.{packet-tells, solicit-limited, lose-accepted, duplicate-limited, sending-7, sending-accepted}
 use Rattle.model.proofs.EventLaws.{call-3, call-7, call-8}

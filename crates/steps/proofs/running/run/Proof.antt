@@ -442,7 +442,7 @@ module _ (c : Of tie.After-line5) (packets : List Packet) where
       (cut-happens (tested (cut-tests here-cut)) (cut-passed here-cut .if1 .left) (pieces here-cut) (cut-stays here-cut .left-of .ensures) (here-cut .before .copies .ensures) (here-cut .copies2 .ensures) _
       (rows-cut .before .loop4 .inv .1) (cut-rows rows-cut) packets moved (fits (cut-has-room c)) (c .before .cut-answer .ensures))
 
--- Every other call: its places, and what stands there.
+-- Solicit, Lose, Duplicate, and a request or a reply delivered: where they look, and what stands there.
 spots : (c : Of tie.After-place8) → (c .before .place7 .result < 256) × (c .place8 .result < 256)
 spots c =
     let k = inside (looked-at (c .before .before .before .before .before .before)) in
@@ -486,7 +486,7 @@ over-two c = ltb-true _ _ (sym (c .before .full2 .ensures) ∙ c .if8 .taken)
 fits-two : (c : Of tie.Else8) → c .before .before .before .stay .result + c .before .before .copies3 .result ≤ airLimit
 fits-two c = ltb-false _ _ (sym (c .before .full2 .ensures) ∙ c .if8 .left)
 
--- It ends with the packets that `exchange` or `transmit` gave.
+-- They end with the packets that `exchange` or `transmit` gave.
 module _ (c : Of tie.After-line7) (packets : List Packet) where
   abbrev here-chosen : Of tie.After-copies3
   here-chosen = chosen c
@@ -506,6 +506,7 @@ module _ (c : Of tie.After-line7) (packets : List Packet) where
       (change-happens (looks (change-held here-chosen)) (choice .change-of .ensures) (here-chosen .before .stay .ensures) (here-chosen .copies3 .ensures) (c .before .told .ensures) packets moved
       (fits-two (has-room c)))
 
+-- Before the first event, and the tests of one.
 loop-holds : Of tie.Need-loop-holds
 loop-holds c = (omega arith, turn-none (start-shape (c .before .before .before .before .before)))
 
@@ -613,11 +614,10 @@ loop-again-2 c =
     (light-happens (tested (light-tests c)) passed (spot .result) (spot .ensures .0) (paired (light-tests c) .pair-place .ensures) (c .before .before .before .place .ensures) (shrunk c) _
     (sym (light-tests c .class-of .ensures) ∙ c .before .before .before .before .if2 .taken))
 
--- Before the first event, and the tests of one.
+-- Trace.
 most-hops-requires : Of tie.Need-most-hops-requires
 most-hops-requires c κs = search needs
 
--- Trace.
 loop2-holds : Of tie.Need-loop2-holds
 unfolding tells
 loop2-holds c = (λ e. (ends-below (c .before) .0, omega arith), rw sub-zero)
@@ -870,7 +870,7 @@ loop-less-6 c = omega (arith, among (cut-tests (decided (c .before .before))))
 loop-again-6 : Of tie.Need-loop-again-6
 loop-again-6 c = cut-ended (c .before .before) _ (array-length (c .exchange .result) (c .exchange .ok)) (inr (c .before .if7 .left, c .exchange .ensures))
 
--- Every other call.
+-- Solicit, Lose, Duplicate, and a request or a reply delivered.
 place-requires-7 : Of tie.Need-place-requires-7
 place-requires-7 c κs = search needs
 
