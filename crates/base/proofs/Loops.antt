@@ -11,7 +11,7 @@ use native.Mathlib.Numerals.{add-one}
 use native.Mathlib.Omega.{arith}
 use borrow.Author.Tests.{ltb-true, ltb-false, eqb-true, eqb-false, lt-leb, leb-false, not-true}
 use Rattle.base.specs.Choice.{if_then_else_}
-use Rattle.base.specs.Lists.{allBelow, below, allIn, someIn, keep, isEmpty, tabulate, indexOf, distinct, removed}
+use Rattle.base.specs.Lists.{allBelow, below, allIn, someIn, keep, isEmpty, tabulate, indexOf, distinct, removeAt, removed}
 use Rattle.base.proofs.Booleans.{clash, passes, iff, choose, Trichotomy, less, equal, more, trichotomy}
 use Rattle.base.proofs.Lists.{all-below, all-below-at, empty-length, distinct-more}
 
@@ -236,25 +236,25 @@ module _ {A : Type 0} where
   removed-length (suc k) zero (x ∷ l) h g = absurd (omega arith)
   removed-length (suc k) (suc last) (x ∷ l) h g = ap suc (removed-length k last l (omega arith) (omega arith))
 
-  removed-first : (k last : ℕ) (l : List A) → k ≤ last → last < length l → take last (removed k last l) ≡ take k (take (suc last) l) ++ drop (suc k) (take (suc last) l)
+  removed-first : (k last : ℕ) (l : List A) → k ≤ last → last < length l → take last (removed k last l) ≡ removeAt k (take (suc last) l)
   unfolding removed
   removed-first k last [] h g = absurd (omega arith)
   removed-first zero last (x ∷ l) h g = take-at (take last l) (drop last (x ∷ l)) last (length-take-le last l (omega arith))
   removed-first (suc k) zero (x ∷ l) h g = absurd (omega arith)
   removed-first (suc k) (suc last) (x ∷ l) h g = ap (λ (r : List A). x ∷ r) (removed-first k last l (omega arith) (omega arith))
 
-map-without : {A B : Type 0} (f : A → B) (k : ℕ) (l : List A) → map f (take k l ++ drop (suc k) l) ≡ take k (map f l) ++ drop (suc k) (map f l)
-map-without f zero [] = refl
-map-without f (suc k) [] = refl
-map-without f zero (x ∷ l) = refl
-map-without {A} {B} f (suc k) (x ∷ l) = ap (λ (r : List B). f x ∷ r) (map-without f k l)
+map-removeAt : {A B : Type 0} (f : A → B) (k : ℕ) (l : List A) → map f (removeAt k l) ≡ removeAt k (map f l)
+map-removeAt f zero [] = refl
+map-removeAt f (suc k) [] = refl
+map-removeAt f zero (x ∷ l) = refl
+map-removeAt {A} {B} f (suc k) (x ∷ l) = ap (λ (r : List B). f x ∷ r) (map-removeAt f k l)
 
 -- Then the first `last` elements are the list without element k.
 pub tabulate-removed : {A B : Type 0} (f : A → B) (k last : ℕ) (d : A) (l : List A) → k ≤ last → last < length l
-    → tabulate last (λ i. f (getD (removed k last l) i d)) ≡ take k (tabulate (suc last) (λ i. f (getD l i d))) ++ drop (suc k) (tabulate (suc last) (λ i. f (getD l i d)))
+    → tabulate last (λ i. f (getD (removed k last l) i d)) ≡ removeAt k (tabulate (suc last) (λ i. f (getD l i d)))
 tabulate-removed {A} {B} f k last d l h g =
-    tabulate-take f (removed k last l) last d (omega (arith, removed-length k last l h g)) ∙ ap (map f) (removed-first k last l h g) ∙ map-without f k (take (suc last) l)
-    ∙ ap (λ (r : List B). take k r ++ drop (suc k) r) (sym (tabulate-take f l (suc last) d g))
+    tabulate-take f (removed k last l) last d (omega (arith, removed-length k last l h g)) ∙ ap (map f) (removed-first k last l h g) ∙ map-removeAt f k (take (suc last) l)
+    ∙ ap (removeAt k) (sym (tabulate-take f l (suc last) d g))
 
 -- Tests of the values, and what is kept of them.
 module _ {A : Type 0} (t : A → Bool) where

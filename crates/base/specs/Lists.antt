@@ -54,6 +54,10 @@ unfoldable pub distinct : List ℕ → Bool
 distinct [] = true
 distinct (x ∷ l) = not (someIn (eqb x) l) && distinct l
 
+-- A list without element k: later ones move up.
+abbrev pub removeAt : {A : Type 0} → ℕ → List A → List A
+removeAt k l = take k l ++ drop (suc k) l
+
 -- The elements up to place `last` without element k, later ones moved up; from place `last` on, what stood there.
 unfoldable pub removed : {A : Type 0} → ℕ → ℕ → List A → List A
 removed k last l = take k l ++ slice (suc k) (suc last) l ++ drop last l

@@ -14,8 +14,8 @@ use Rattle.codec.specs.Bytes.{byteAt, numberAt}
 use Rattle.codec.proofs.ByteLaws.{little-length}
 use Rattle.model.specs.Memory.{place, pairPlace, linkIn}
 use Rattle.model.specs.Calls.{notStation, notPair, notPacket}
-use Rattle.network.specs.View.{recordOf, packetOf, view}
 use Rattle.rows.specs.View.{rowOf}
+use Rattle.network.specs.View.{recordOf, packetOf, view}
 use Rattle.layout.specs.Places.{numbersAt, soughtAt, activeAt, linksAt, labelsAt, rowsAt, recordsAt, airAt, packetsAt}
 use Rattle.layout.specs.Stored.{storedFlag, storedLabel, storedRow, storedRecord, storedPacket, storedMemory, storedNetwork}
 use Rattle.layout.specs.Written.{flag, labelBytes, rowBytes, recordBytes, packetBytes}

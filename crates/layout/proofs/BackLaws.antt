@@ -16,8 +16,8 @@ use Rattle.codec.specs.Tables.{tableAt}
 use Rattle.codec.proofs.ByteLaws.{little-length}
 use Rattle.codec.proofs.TableLaws.{Stands, stands-first, stands-rest, stands-number, stands-byte, stands-entry}
 use Rattle.model.specs.Memory.{Row, Record, Body, request, reply, error, other, Packet, zeroLabel, rowLimit}
-use Rattle.network.specs.View.{recordOf, requestOf, replyOf, bodyOf, packetOf}
 use Rattle.rows.specs.View.{successor, entryOf, rowOf}
+use Rattle.network.specs.View.{recordOf, requestOf, replyOf, bodyOf, packetOf}
 use Rattle.layout.specs.Stored.{storedLabel, storedRow, storedRecord, storedPacket}
 use Rattle.layout.specs.Written.{flag, padded, labelBytes, zeroSuccessor, successorBytes, rowBytes, recordBytes, fieldBytes, bodyBytes, packetBytes}
 use Rattle.layout.specs.Fits.{LabelFits, RowFits, RecordFits, BodyFits}

@@ -16,11 +16,11 @@ use Rattle.codec.specs.Bytes.{littleEndian}
 use Rattle.codec.proofs.ByteLaws.{sets-next, little-length}
 use Rattle.model.specs.Memory.{Successor, Row, Record, Body, request, reply, error, other, Packet, zeroLabel, zeroPacket, rowLimit, airLimit}
 use Rattle.rows.specs.declared.Row as code
+use Rattle.rows.specs.View.{entryOf, rowOf}
+use Rattle.rows.proofs.Bounds.{RowLengths}
 use Rattle.network.specs.declared.Air.{Air}
 use Rattle.network.specs.View as view
 use Rattle.network.specs.View.{bodyOf, packetOf, packetsOf, airOf}
-use Rattle.rows.specs.View.{entryOf, rowOf}
-use Rattle.rows.proofs.Bounds.{RowLengths}
 use Rattle.network.proofs.PacketLaws.{packetIn}
 use Rattle.layout.specs.Written.{flag, padded, labelBytes, zeroSuccessor, successorBytes, rowBytes, recordBytes, fieldBytes, bodyBytes, packetBytes}
 

@@ -16,11 +16,11 @@ use Rattle.codec.specs.Tables.{tableAt}
 use Rattle.codec.proofs.ByteLaws.{little-length}
 use Rattle.codec.proofs.TableLaws.{Stands, stands-whole, stands-first, stands-rest, stands-number, stands-byte, stands-bytes, stands-entry}
 use Rattle.model.specs.Memory.{Packet, Network, place, zeroLabel, zeroRecord, zeroPacket, airLimit}
+use Rattle.rows.specs.View.{rowOf}
 use Rattle.network.specs.declared.RequestNumber.{RequestNumber}
 use Rattle.network.specs.declared.Packet as code
 use Rattle.network.specs.View as view
 use Rattle.network.specs.View.{recordOf, packetOf, packetsOf, airOf, labelOf, view}
-use Rattle.rows.specs.View.{rowOf}
 use Rattle.network.proofs.PacketLaws.{packetIn}
 use Rattle.layout.specs.Places.{numbersAt, soughtAt, activeAt, linksAt, labelsAt, rowsAt, recordsAt, airAt, packetsAt}
 use Rattle.layout.specs.Stored.{storedFlag, storedNumber, storedLabel, storedRow, storedRecord, storedPacket, storedAir, storedMemory, storedNetwork}

@@ -11,10 +11,10 @@ use Rattle.label.specs.declared.Label.{Label}
 use Rattle.codec.specs.Bytes.{byteAt, numberAt}
 use Rattle.codec.specs.Tables.{tableAt}
 use Rattle.model.specs.Memory.{zeroLabel, zeroRecord, zeroPacket, airLimit}
+use Rattle.rows.specs.View.{rowOf}
 use Rattle.network.specs.declared.RequestNumber.{RequestNumber}
 use Rattle.network.specs.View as view
 use Rattle.network.specs.View.{recordOf, packetOf, packetsOf, labelOf, view}
-use Rattle.rows.specs.View.{rowOf}
 use Rattle.network.proofs.PacketLaws.{packetIn}
 use Rattle.layout.specs.Places.{numbersAt, soughtAt, activeAt, linksAt, labelsAt, rowsAt, recordsAt, airAt, packetsAt}
 use Rattle.layout.specs.Stored.{storedFlag, storedNumber, storedLabel, storedRow, storedRecord, storedPacket, storedAir, storedMemory, storedNetwork}

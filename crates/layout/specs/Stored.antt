@@ -8,8 +8,8 @@ use Rattle.label.specs.Label.{label}
 use Rattle.codec.specs.Bytes.{byteAt, numberAt}
 use Rattle.codec.specs.Tables.{tableAt}
 use Rattle.model.specs.Memory.{Network, airLimit, rowLimit}
-use Rattle.network.specs.declared.RequestNumber.{RequestNumber}
 use Rattle.rows.specs.declared.Row.{Row}
+use Rattle.network.specs.declared.RequestNumber.{RequestNumber}
 use Rattle.network.specs.declared.Record.{Record}
 use Rattle.network.specs.declared.Packet.{Packet}
 use Rattle.network.specs.declared.Air.{Air}

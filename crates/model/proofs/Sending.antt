@@ -8,6 +8,7 @@ use lib.ListN.{set, take, drop}
 use lib.Dec.{eqb}
 use native.Mathlib.Omega.{arith}
 use borrow.Author.Tests.{eq-eqb, not-true}
+use Rattle.base.specs.Lists.{removeAt}
 use Rattle.base.proofs.Booleans.{clash, neither, passes, choose, cases}
 use Rattle.base.proofs.Lists.{below-mem, keep-mem, mem-take, mem-drop}
 use Rattle.label.specs.declared.Label.{Label}
@@ -39,7 +40,7 @@ module _ {Reachable : Type 0} (net : Network) (ok : WellFormed Reachable net) wh
   pub well-formed-remove : (k : ℕ) → WellFormed Reachable (removePacket k net)
   unfolding removePacket
   well-formed-remove k =
-      well-formed-air net ok (take k (net .air) ++ drop (suc k) (net .air))
+      well-formed-air net ok (removeAt k (net .air))
       (air-append (take k (net .air)) (drop (suc k) (net .air))
       (λ p m. ok .air p (mem-take k (net .air) m)) (λ p m. ok .air p (mem-drop (suc k) (net .air) m)))
 

@@ -2,11 +2,11 @@
 use Prim.Native.Nat.{ℕ, zero, suc, _+_, _-_, _^_, _/_, _%_}
 use mathlib.Core.Bool.{Bool, true, false, not, _&&_, _||_}
 use mathlib.Core.List.{List, [], _∷_, _++_, map}
-use lib.ListN.{length, set, take, drop}
+use lib.ListN.{length, set}
 use lib.Dec.{ltb, leb, eqb}
 use Rattle.base.specs.Choice.{if_then_else_}
 use Rattle.base.specs.Numbers.{maxU32}
-use Rattle.base.specs.Lists.{someBelow, below, someIn, keep, isEmpty}
+use Rattle.base.specs.Lists.{someBelow, below, someIn, keep, isEmpty, removeAt}
 use Rattle.base.specs.Results.{Result, refused, accepted, refuse_when_otherwise_}
 use Rattle.label.specs.declared.Label.{Label}
 use Rattle.label.specs.Label.{label, unassigned, isUnassigned, above, Outcome, took, gave, newLabel}
@@ -104,6 +104,9 @@ emptied masked leaves i (suc t) rows =
 unfoldable pub between : ℕ → ℕ → Packet → Bool
 between a b p = eqb (p .sender) a && eqb (p .receiver) b || eqb (p .sender) b && eqb (p .receiver) a
 
+abbrev pub dropBetween : ℕ → ℕ → List Packet → List Packet
+dropBetween a b air = keep (λ p. not (between a b p)) air
+
 unfoldable pub everyDestination : ℕ → Bool
 everyDestination t = true
 
@@ -114,7 +117,7 @@ lost net i j = emptied everyDestination (names j) i (net .n) (net .rows)
 unfoldable pub parted : ℕ → ℕ → Network → Network
 parted a b net =
     let rows = takeOut everyDestination (names a) b (net .n) (takeOut everyDestination (names b) a (net .n) (net .rows)) in
-    setRows rows (setAir (keep (λ p. not (between a b p)) (net .air)) (setLink a b false net))
+    setRows rows (setAir (dropBetween a b (net .air)) (setLink a b false net))
 
 unfoldable pub down : ℕ → ℕ → Network → Effect
 down a b net =
@@ -270,7 +273,7 @@ onError i j mask net =
 -- Deliver: "removes packet k, later ones move up, then the receiver i acts". Memory in range has no packet of another kind.
 
 unfoldable pub removePacket : ℕ → Network → Network
-removePacket k net = setAir (take k (net .air) ++ drop (suc k) (net .air)) net
+removePacket k net = setAir (removeAt k (net .air)) net
 
 unfoldable pub receive : ℕ → ℕ → Body → Network → Effect
 receive i j (request R) net = onRequest i j R net

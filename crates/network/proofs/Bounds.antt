@@ -13,11 +13,11 @@ use Rattle.base.proofs.Loops.{tabulate-length}
 use Rattle.model.specs.Memory.{airLimit}
 use Rattle.model.proofs.Range.{Sized}
 use Rattle.label.specs.declared.Label.{Label}
+use Rattle.rows.specs.View.{rowOf}
 use Rattle.network.specs.declared.Packet.{Packet}
 use Rattle.network.specs.declared.Air.{Air}
 use Rattle.network.specs.declared.Memory.{Memory}
 use Rattle.network.specs.View.{recordOf, labelOf, view}
-use Rattle.rows.specs.View.{rowOf}
 use Rattle.label.proofs.Label as label
 use Rattle.network.proofs.Packet as packet
 use Rattle.network.proofs.Packet.Laws as packet′

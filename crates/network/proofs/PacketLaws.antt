@@ -1,13 +1,13 @@
 -- Laws of the packets in the air read as a list.
-use Prim.Native.Nat.{ℕ, suc, _+_, _≤_, _<_}
+use Prim.Native.Nat.{ℕ, _+_, _≤_, _<_}
 use mathlib.Core.Path.{_≡_, ap, ap₂, _∙_}
 use mathlib.Core.Bool.{Bool, not}
 use mathlib.Core.List.{List, [], _∷_, _++_}
-use lib.ListN.{length, getD, set, take, drop, length-set}
+use lib.ListN.{length, getD, set, length-set}
 use lib.Seq.{getD-set-same, getD-set-other}
 use native.Mathlib.Numerals.{add-one}
 use native.Mathlib.Omega.{arith}
-use Rattle.base.specs.Lists.{removed}
+use Rattle.base.specs.Lists.{removeAt, removed}
 use Rattle.base.proofs.Loops.{tabulate-length, tabulate-at, tabulate-more, tabulate-same, tabulate-removed}
 use Rattle.model.specs.Memory.{airLimit}
 use Rattle.model.specs.Memory as model
@@ -42,7 +42,7 @@ module _ (packets : List Packet) (count : ℕ) where
 
 -- The packets after k moved up.
 pub packets-removed : (packets : List Packet) (last k : ℕ) → k ≤ last → last < length packets
-    → packetsOf (removed k last packets) last ≡ take k (packetsOf packets (last + 1)) ++ drop (suc k) (packetsOf packets (last + 1))
+    → packetsOf (removed k last packets) last ≡ removeAt k (packetsOf packets (last + 1))
 unfolding packetsOf
 packets-removed packets last k h g = rw (add-one last) (tabulate-removed packetOf k last zeroPacket packets h g)
 

@@ -13,10 +13,10 @@ use Rattle.base.proofs.Loops.{tabulate-length, index-within, index-outside, all
 use Rattle.model.specs.Memory.{Successor, names, stations, headInRange, bodyInRange, sizeInRange, cellInRange, placeInRange, airInRange}
 use Rattle.model.specs.Memory.{stationInRange, memoryInRange}
 use Rattle.rows.specs.declared.Row.{Row}
+use Rattle.rows.specs.View.{zeroRow, entryOf, rowOf}
 use Rattle.network.specs.declared.Packet.{Packet}
 use Rattle.network.specs.declared.Memory.{Memory}
 use Rattle.network.specs.View.{zeroRecord, recordOf, requestOf, replyOf, bodyOf, airOf, labelOf, view}
-use Rattle.rows.specs.View.{zeroRow, entryOf, rowOf}
 use Rattle.network.proofs.ViewLaws.{row-at, record-at, label-at, body-request, body-reply, body-error, body-other}
 
 -- A number other than 0 is over it.

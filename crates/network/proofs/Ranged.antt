@@ -15,12 +15,12 @@ use Rattle.model.specs.Memory as model
 use Rattle.model.specs.Memory.{place, memoryInRange, airLimit, rowLimit}
 use Rattle.model.proofs.Invariant.{HeadOk, BodyOk, PacketOk, RecordOk}
 use Rattle.model.proofs.Range.{Sized, Invariant, in-range-invariant}
+use Rattle.rows.specs.View.{zeroRow, entryOf, rowOf}
+use Rattle.rows.proofs.RowLaws.{row-length}
 use Rattle.network.specs.declared.Packet.{Packet}
 use Rattle.network.specs.declared.Memory.{Memory}
 use Rattle.network.specs.View.{zeroRecord, zeroPacket, recordOf, requestOf, replyOf, bodyOf, packetOf, airOf, labelOf, view}
-use Rattle.rows.specs.View.{zeroRow, entryOf, rowOf}
 use Rattle.network.proofs.ViewLaws.{row-at, record-at, label-at, body-request, body-reply, body-error, body-other}
-use Rattle.rows.proofs.RowLaws.{row-length}
 use Rattle.network.proofs.PacketLaws.{air-length, air-at}
 
 -- A packet, by its kind.

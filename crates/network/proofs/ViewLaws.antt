@@ -15,13 +15,13 @@ use Rattle.base.proofs.Loops.{tabulate-at, tabulate-set, tabulate-constant}
 use Rattle.label.specs.Label.{label, unassigned}
 use Rattle.model.specs.Memory as model
 use Rattle.model.specs.Memory.{place, freshLabels, freshRecord, fresh}
-use Rattle.network.specs.declared.RequestNumber.{RequestNumber}
 use Rattle.rows.specs.declared.Row.{Row}
+use Rattle.rows.specs.View.{zeroRow, rowOf}
+use Rattle.network.specs.declared.RequestNumber.{RequestNumber}
 use Rattle.network.specs.declared.Record.{Record}
 use Rattle.network.specs.declared.Packet.{Packet}
 use Rattle.network.specs.declared.Air.{Air}
 use Rattle.network.specs.View.{zeroNumber, zeroRecord, recordOf, requestOf, replyOf, bodyOf, airOf, labelOf, view}
-use Rattle.rows.specs.View.{zeroRow, rowOf}
 
 -- Rows and records of the view by their places.
 empty-row : [] ≡ rowOf zeroRow

@@ -12,8 +12,8 @@ use Rattle.base.specs.Lists.{tabulate}
 use Rattle.label.specs.declared.Label.{Label}
 use Rattle.label.specs.Label.{label}
 use Rattle.model.specs.Memory as model
-use Rattle.network.specs.declared.RequestNumber.{RequestNumber}
 use Rattle.rows.specs.View.{rowOf}
+use Rattle.network.specs.declared.RequestNumber.{RequestNumber}
 use Rattle.network.specs.declared.Record.{Record}
 use Rattle.network.specs.declared.Packet.{Packet}
 use Rattle.network.specs.declared.Air.{Air}

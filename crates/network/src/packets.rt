@@ -1,12 +1,11 @@
 // The packets in the air: sending, removing and dropping them.
 ghost use mathlib.Core.Path.{_≡_};
-ghost use mathlib.Core.Bool.{not};
 ghost use mathlib.Core.List.{_++_, map};
 ghost use Prim.Native.Nat.{_+_, _<_, _≤_};
 ghost use lib.ListN.{length, set};
-ghost use Rattle.base.specs.Lists.{keep, below, removed};
+ghost use Rattle.base.specs.Lists.{below, removed};
 ghost use Rattle.model.specs.Memory.{linkIn, request, reply, error, airLimit};
-ghost use Rattle.model.specs.Calls.{packet, between};
+ghost use Rattle.model.specs.Calls.{packet, between, dropBetween};
 ghost use Rattle.network.specs.View.{bodyOf, packetOf, packetsOf, airOf};
 use crate::AIR_LIMIT;
 use crate::Air;
@@ -157,7 +156,7 @@ fn is_between(p: Packet, a: u8, b: u8) -> bool
 // The first `count` packets without those between a and b, the others in their order.
 pub fn without_between(packets: [Packet; AIR_LIMIT as usize], count: u8, a: u8, b: u8) -> Air
     requires { ⌜ count ≤ airLimit ⌝ }
-    ensures { λ r. ⌜ airOf r ≡ keep (λ p. not (between a b p)) (packetsOf packets count) ⌝ }
+    ensures { λ r. ⌜ airOf r ≡ dropBetween a b (packetsOf packets count) ⌝ }
 {
     let mut next = packets;
     let mut left = 0;

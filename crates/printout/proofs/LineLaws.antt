@@ -16,9 +16,9 @@ use Rattle.label.specs.Label.{isUnassigned}
 use Rattle.model.specs.Memory.{Successor, Network, place, stations, rowLimit}
 use Rattle.model.specs.Printout.{labelLine, isListed, labelLineAt, stationLines, labelLines}
 use Rattle.rows.specs.declared.Row.{Row}
+use Rattle.rows.specs.View.{zeroRow, entryOf, rowOf}
 use Rattle.network.specs.declared.Memory.{Memory}
 use Rattle.network.specs.View.{labelOf, view}
-use Rattle.rows.specs.View.{zeroRow, entryOf, rowOf}
 use Rattle.network.proofs.ViewLaws.{label-at, row-at}
 use Rattle.printout.specs.Text.{field, refusalText, labelText}
 

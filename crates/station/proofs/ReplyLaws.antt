@@ -11,9 +11,9 @@ use Rattle.model.specs.Memory as model
 use Rattle.model.specs.Memory.{Network, place, isActive, under, put, setLabels, setRows, setRecords, setActives, setActive}
 use Rattle.model.specs.Calls.{effect, replyTo, matches, cachedAt, adopt, settle, passesOn, passOn, onOutcome, onReply}
 use Rattle.rows.specs.declared.Row.{Row}
+use Rattle.rows.specs.View.{successor, rowOf}
 use Rattle.network.specs.declared.Packet.{Packet}
 use Rattle.network.specs.View.{recordOf, replyOf}
-use Rattle.rows.specs.View.{successor, rowOf}
 use Rattle.station.specs.declared.Holding.{Holding}
 use Rattle.station.specs.Reacting.{Holds, holding}
 

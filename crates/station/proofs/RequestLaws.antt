@@ -10,9 +10,9 @@ use Rattle.label.specs.declared.Label.{Label}
 use Rattle.model.specs.Memory.{Network, request, labelAt, setRecord}
 use Rattle.model.specs.Calls as calls
 use Rattle.model.specs.Calls.{effect, sending, copies, replyTo, resets, withNumber, atDestination, canReply, onward, engage, onRequest}
+use Rattle.rows.specs.View.{rowOf}
 use Rattle.network.specs.declared.Packet.{Packet}
 use Rattle.network.specs.View.{recordOf, requestOf}
-use Rattle.rows.specs.View.{rowOf}
 use Rattle.station.specs.declared.Holding.{Holding}
 use Rattle.station.specs.Reacting.{Holds, holding}
 use Rattle.station.proofs.Laws.{holding-label}

@@ -10,9 +10,9 @@ use Rattle.base.specs.Lists.{below}
 use Rattle.model.specs.Memory as model
 use Rattle.model.specs.Memory.{Network, linkIn, labelAt, rowAt, recordAt, isActive, setLabel, setRow, setRecord, setActive}
 use Rattle.model.specs.Calls.{Effect, packet, sending}
+use Rattle.rows.specs.View.{rowOf}
 use Rattle.network.specs.declared.Packet.{Packet}
 use Rattle.network.specs.View.{recordOf, bodyOf, packetOf}
-use Rattle.rows.specs.View.{rowOf}
 use Rattle.station.specs.declared.Holding.{Holding}
 use Rattle.station.specs.declared.Reaction.{Reaction}
 

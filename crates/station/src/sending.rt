@@ -1,8 +1,9 @@
 // Sending a packet to nobody, to its receiver, or to each up neighbour.
 ghost use mathlib.Core.Path.{_≡_};
 ghost use mathlib.Core.List.{_++_};
-ghost use Prim.Native.Nat.{ℕ, suc, _+_, _<_, _≤_};
-ghost use lib.ListN.{length, take, drop};
+ghost use Prim.Native.Nat.{ℕ, _+_, _<_, _≤_};
+ghost use lib.ListN.{length};
+ghost use Rattle.base.specs.Lists.{removeAt};
 ghost use Rattle.model.specs.Memory.{Network, error, airLimit};
 ghost use Rattle.model.specs.Calls.{errors};
 ghost use Rattle.network.specs.declared.Packet.{Packet};
@@ -67,7 +68,7 @@ pub fn exchange(
     requires { ⌜ (n ≤ 16) × (a < 16) × (k ≤ last) × (last < airLimit) ⌝ }
     requires { ⌜ last + length (sentBy scope links n a p) ≤ airLimit ⌝ }
     ensures { λ r. ⌜ packetsOf r (last + length (sentBy scope links n a p))
-        ≡ (take k (packetsOf packets (last + 1)) ++ drop (suc k) (packetsOf packets (last + 1))) ++ sentBy scope links n a p ⌝ }
+        ≡ removeAt k (packetsOf packets (last + 1)) ++ sentBy scope links n a p ⌝ }
 {
     let place = last as usize;
     if scope == 0 {

@@ -1,12 +1,13 @@
 -- Solicit, Lose and Duplicate, as a turn of the run makes them.
-use Prim.Native.Nat.{ℕ, suc, _+_, _-_, _%_, _≤_, _<_}
+use Prim.Native.Nat.{ℕ, _+_, _-_, _%_, _≤_, _<_}
 use mathlib.Core.Path.{_≡_, ap, _∙_}
 use mathlib.Core.Bool.{true, false}
 use mathlib.Core.Logic.{_≢_}
 use mathlib.Core.List.{List, [], _∷_, _++_}
-use lib.ListN.{length, getD, set, take, drop, length-append}
+use lib.ListN.{length, getD, set, length-append}
 use native.Mathlib.Omega.{arith}
 use borrow.Author.Tests.{lt-ltb, le-ltb}
+use Rattle.base.specs.Lists.{removeAt}
 use Rattle.base.proofs.Lists.{map-set}
 use Rattle.base.proofs.Results.{refuse-holds, refuse-passes}
 use Rattle.label.specs.declared.Label.{Label}
@@ -96,7 +97,7 @@ module _ {memory : Memory} {packets : List Packet} {count kind a b r : ℕ} (h :
   unfolding Passes
   lose-there e = packet-there (passes h zero (Lose a) (λ q. omega arith) (call-7 kind a b e) .1)
 
-  pub lose-happens : kind ≡ 7 → (packets′ : List Packet) → packetsOf packets′ (count - 1) ≡ take (a % 128) (packetsOf packets count) ++ drop (suc (a % 128)) (packetsOf packets count)
+  pub lose-happens : kind ≡ 7 → (packets′ : List Packet) → packetsOf packets′ (count - 1) ≡ removeAt (a % 128) (packetsOf packets count)
       → Happens m (eventOf kind a b) (happened (airing memory packets′ (count - 1)) 0 0 0)
   unfolding Passes removePacket view setAir
   lose-happens e packets′ f =

@@ -21,11 +21,11 @@ use Rattle.model.proofs.Links.{link-pair}
 use Rattle.model.proofs.Tracing.{trace-follows}
 use Rattle.model.proofs.EventLaws.{call-1, call-4, call-5, event-none, event-trace, event-call}
 use Rattle.rows.specs.declared.Row.{Row}
+use Rattle.rows.specs.View.{zeroRow, rowOf}
 use Rattle.network.specs.declared.Packet.{Packet}
 use Rattle.network.specs.declared.Air.{Air}
 use Rattle.network.specs.declared.Memory.{Memory}
 use Rattle.network.specs.View.{zeroNumber, view}
-use Rattle.rows.specs.View.{zeroRow, rowOf}
 use Rattle.network.proofs.ViewLaws.{number-at}
 use Rattle.network.proofs.PacketLaws.{packets-count}
 use Rattle.network.proofs.Ranged.{Ranged}

@@ -10,6 +10,7 @@ use lib.Dec.{eqb, leb}
 use native.Mathlib.Omega.{arith}
 use borrow.Author.Tests.{eqb-true, eqb-false, leb-false}
 use Rattle.base.specs.Choice.{if_then_else_}
+use Rattle.base.specs.Lists.{removeAt}
 use Rattle.base.specs.Numbers.{maxU32}
 use Rattle.base.proofs.Booleans.{clash, Trichotomy, less, equal, more, trichotomy}
 use Rattle.label.specs.declared.Label.{Label}
@@ -18,12 +19,12 @@ use Rattle.model.specs.Memory.{place, airLimit}
 use Rattle.model.specs.Calls.{Solicit}
 use Rattle.model.specs.Events.{eventOf}
 use Rattle.model.proofs.EventLaws.{event-kinds, call-3}
+use Rattle.rows.specs.View.{zeroRow}
 use Rattle.network.specs.declared.RequestNumber.{RequestNumber}
 use Rattle.network.specs.declared.Packet.{Packet}
 use Rattle.network.specs.declared.Air.{Air}
 use Rattle.network.specs.declared.Memory.{Memory}
 use Rattle.network.specs.View.{zeroNumber, zeroRecord, zeroPacket, packetsOf, labelOf, view}
-use Rattle.rows.specs.View.{zeroRow}
 use Rattle.network.proofs.ViewLaws.{number-at}
 use Rattle.network.proofs.PacketLaws.{packets-count}
 use Rattle.station.specs.declared.Holding.{Holding}
@@ -34,7 +35,7 @@ use Rattle.decisions.specs.declared.changing.Change.{Change}
 use Rattle.decisions.specs.Refusing.{Passes}
 use Rattle.decisions.specs.Changing.{classOf, Solicits, reaction, Reacts, Loses, Doubles}
 use Rattle.steps.specs.Happens.{happened, Happens}
-use Rattle.steps.proofs.PacketMoves.{without, without-length, exchanged}
+use Rattle.steps.proofs.PacketMoves.{removeAt-length, exchanged}
 use Rattle.steps.proofs.RunLaws.{airing, Shape}
 use Rattle.steps.proofs.ArmLaws.{Tested, known, is-event, passes, both-below}
 use Rattle.steps.proofs.AirLaws.{solicit-7, solicit-happens, lose-there, lose-happens, duplicate-7, duplicate-happens}
@@ -135,7 +136,7 @@ module _ {memory : Memory} {packets : List Packet} {count kind a b r : ℕ} {w :
   module _ {c : Change} (does : (kind ≡ 3 → Solicits held (last .0) (w .station) (w .destination) c) × ((kind ≡ 6 → Reacts p held last sought (memory .links) c)
       × ((kind ≡ 7 → Loses held last sought c) × (kind ≡ 8 → Doubles p held last sought c)))) where
     abbrev stays : List model.Packet
-    stays = if c .drops then without (a % 128) (packetsOf packets count) else packetsOf packets count
+    stays = if c .drops then removeAt (a % 128) (packetsOf packets count) else packetsOf packets count
 
     abbrev sent : List model.Packet
     sent = sentBy (c .scope) (memory .links) (memory .n) (w .station) (c .packet)
@@ -190,8 +191,8 @@ module _ {memory : Memory} {packets : List Packet} {count kind a b r : ℕ} {w :
     stays-length : length stays ≡ (if c .drops then count - 1 else count)
     stays-length = go (c .drops) refl
       where
-        go : (x : Bool) → c .drops ≡ x → length (if x then without (a % 128) (packetsOf packets count) else packetsOf packets count) ≡ (if x then count - 1 else count)
-        go true d = without-length packets count (a % 128) (goes d)
+        go : (x : Bool) → c .drops ≡ x → length (if x then removeAt (a % 128) (packetsOf packets count) else packetsOf packets count) ≡ (if x then count - 1 else count)
+        go true d = removeAt-length packets count (a % 128) (goes d)
         go false d = packets-count packets count
 
     -- Solicit.
@@ -244,7 +245,7 @@ module _ {memory : Memory} {packets : List Packet} {count kind a b r : ℕ} {w :
           let s = at-receiver in
           let there = arrives (g .tested) (g .zero-is) e in
           reaction-7 (g .tested) (g .zero-is) e q cell slot l (rw (s .0, s .1) at (g .cell-is)) (rw (s .0, s .2) at (g .slot-is)) (g .label-is)
-          (reaction c) (rw (s .0) at (re .reacted)) (rw (re .drops-is, there .1, without-length packets count a (there .0), s .0) at full)
+          (reaction c) (rw (s .0) at (re .reacted)) (rw (re .drops-is, there .1, removeAt-length packets count a (there .0), s .0) at full)
 
       react-done : Done
       react-done packets′ room f =
@@ -253,9 +254,9 @@ module _ {memory : Memory} {packets : List Packet} {count kind a b r : ℕ} {w :
           let there = arrives (g .tested) (g .zero-is) e in
           let law =
           reaction-happens (g .tested) (g .zero-is) e q cell slot l (rw (s .0, s .1) at (g .cell-is)) (rw (s .0, s .2) at (g .slot-is)) (g .label-is)
-          (reaction c) (rw (s .0) at (re .reacted)) packets′ (rw (re .drops-is, there .1, without-length packets count a (there .0), s .0) at room)
-          (rw (re .drops-is, there .1, without-length packets count a (there .0), s .0) at f) in
-          rw (e, re .number-is, re .sought-is, set-getD (memory .numbers) (w .station) zeroNumber, set-getD (memory .sought) (w .station) 0, re .drops-is, there .1, without-length packets count a (there .0), s .0)
+          (reaction c) (rw (s .0) at (re .reacted)) packets′ (rw (re .drops-is, there .1, removeAt-length packets count a (there .0), s .0) at room)
+          (rw (re .drops-is, there .1, removeAt-length packets count a (there .0), s .0) at f) in
+          rw (e, re .number-is, re .sought-is, set-getD (memory .numbers) (w .station) zeroNumber, set-getD (memory .sought) (w .station) 0, re .drops-is, there .1, removeAt-length packets count a (there .0), s .0)
           (rw e at law)
 
     -- Where nothing changes at the station, only the air does.
@@ -288,15 +289,15 @@ module _ {memory : Memory} {packets : List Packet} {count kind a b r : ℕ} {w :
           let zero-more : count - 1 + 0 ≡ count - 1 = omega arith in
           let law =
           lose-happens (g .tested) (g .zero-is) e packets′
-          (rw (lo .drops-is, lo .scope-is, without-length packets count (a % 128) gone, zero-more) at f ∙ append-nil _) in
-          rw (e, unchanged (lo .holding-is) (lo .number-is) (lo .sought-is) (record { packets = packets′; count = length stays + length sent }), lo .answer-is, lo .drops-is, lo .scope-is, without-length packets count (a % 128) gone, zero-more) (rw e at law)
+          (rw (lo .drops-is, lo .scope-is, removeAt-length packets count (a % 128) gone, zero-more) at f ∙ append-nil _) in
+          rw (e, unchanged (lo .holding-is) (lo .number-is) (lo .sought-is) (record { packets = packets′; count = length stays + length sent }), lo .answer-is, lo .drops-is, lo .scope-is, removeAt-length packets count (a % 128) gone, zero-more) (rw e at law)
 
       lose-full : Full
       unfolding sentBy
       lose-full full =
           let lo = does .1 .1 .0 e in
           let there = lose-there (g .tested) (g .zero-is) e in
-          let more : airLimit < count - 1 + 0 = rw (lo .drops-is, lo .scope-is, without-length packets count (a % 128) (omega (arith, there))) at full in
+          let more : airLimit < count - 1 + 0 = rw (lo .drops-is, lo .scope-is, removeAt-length packets count (a % 128) (omega (arith, there))) at full in
           absurd (omega (arith, more, known (g .tested) .air-count))
 
     -- Duplicate.
@@ -335,7 +336,7 @@ module _ {memory : Memory} {packets : List Packet} {count kind a b r : ℕ} {w :
 
       -- What `exchange` gives where packet k goes, and what `transmit` gives where all stay.
       abbrev pub ChangeMoved : List Packet → Type 0
-      ChangeMoved packets′ = ((c .drops ≡ true) × (packetsOf packets′ (stay + length sent) ≡ without (a % 128) (packetsOf packets (stay + 1)) ++ sent))
+      ChangeMoved packets′ = ((c .drops ≡ true) × (packetsOf packets′ (stay + length sent) ≡ removeAt (a % 128) (packetsOf packets (stay + 1)) ++ sent))
           ⊎ ((c .drops ≡ false) × (packetsOf packets′ (stay + length sent) ≡ packetsOf packets stay ++ sent))
 
       moved : (packets′ : List Packet) → ChangeMoved packets′ → packetsOf packets′ (length stays + length sent) ≡ stays ++ sent

@@ -1,12 +1,13 @@
 -- A request or a reply delivered, as a turn of the run makes it.
-use Prim.Native.Nat.{ℕ, suc, _+_, _-_, _%_, _≤_, _<_}
+use Prim.Native.Nat.{ℕ, _+_, _-_, _%_, _≤_, _<_}
 use mathlib.Core.Path.{_≡_, refl, sym, ap, _∙_}
 use mathlib.Core.Logic.{_≢_}
 use mathlib.Core.Bool.{false}
 use mathlib.Core.List.{List, _++_}
-use lib.ListN.{length, getD, set, take, drop}
+use lib.ListN.{length, getD, set}
 use native.Mathlib.Omega.{arith}
 use Rattle.base.specs.Results.{refused, accepted}
+use Rattle.base.specs.Lists.{removeAt}
 use Rattle.base.proofs.Lists.{map-set}
 use Rattle.label.specs.declared.Label.{Label}
 use Rattle.model.specs.Memory as model
@@ -15,10 +16,10 @@ use Rattle.model.specs.Calls.{Deliver, Effect, effect, limited, send, sending, 
 use Rattle.model.specs.Events.{calls, eventOf}
 use Rattle.model.proofs.Refusals.{deliver-limited, sending-7, sending-accepted}
 use Rattle.model.proofs.EventLaws.{call-6}
+use Rattle.rows.specs.View.{zeroRow, rowOf}
 use Rattle.network.specs.declared.Packet.{Packet}
 use Rattle.network.specs.declared.Memory.{Memory}
 use Rattle.network.specs.View.{zeroNumber, zeroRecord, zeroPacket, recordOf, bodyOf, packetOf, packetsOf, labelOf, view}
-use Rattle.rows.specs.View.{zeroRow, rowOf}
 use Rattle.network.proofs.ViewLaws.{row-at, record-at, number-at, label-at, labels-set}
 use Rattle.network.proofs.PacketLaws.{packets-at}
 use Rattle.network.proofs.Ranged.{Carried, Ranged}
@@ -28,7 +29,7 @@ use Rattle.station.specs.Reacting.{sentBy, Holds, holding, reacts}
 use Rattle.station.specs.Replying.{LastRequest, Ready}
 use Rattle.decisions.specs.Refusing.{Passes}
 use Rattle.steps.specs.Happens.{happened, Happens}
-use Rattle.steps.proofs.PacketMoves.{without-length}
+use Rattle.steps.proofs.PacketMoves.{removeAt-length}
 use Rattle.steps.proofs.RunLaws.{airing, shape-sized}
 use Rattle.steps.proofs.ArmLaws.{Tested, known, passes, happens-accepted, happens-7}
 use Rattle.steps.proofs.AirLaws.{packet-there}
@@ -55,10 +56,10 @@ module _ {memory : Memory} {packets : List Packet} {count kind a b r : ℕ} (h :
 
   -- The other packets.
   abbrev pub rest : List model.Packet
-  rest = take a (packetsOf packets count) ++ drop (suc a) (packetsOf packets count)
+  rest = removeAt a (packetsOf packets count)
 
   pub rest-length : length rest ≡ count - 1
-  rest-length = without-length packets count a (arrives .0)
+  rest-length = removeAt-length packets count a (arrives .0)
 
   abbrev flying : model.Network
   flying = setAir rest (view m)

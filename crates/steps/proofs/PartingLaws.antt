@@ -10,19 +10,20 @@ use lib.Dec.{eqb}
 use native.Mathlib.Nat.{add-zero}
 use native.Mathlib.Omega.{arith}
 use Rattle.base.specs.Choice.{if_then_else_}
+use Rattle.base.specs.Lists.{removeAt}
 use Rattle.model.specs.Memory as model
 use Rattle.model.specs.Memory.{Network, error, pairPlace, names, setRows, setLinks, setAir, airLimit}
 use Rattle.model.specs.Calls.{Down, Deliver, effect, limited, send, sending, errors, receive, onError, errorOutcome, step}
-use Rattle.model.specs.Calls.{takeOut, removes, emptied, everyDestination, lost, parted, down, bit}
+use Rattle.model.specs.Calls.{takeOut, removes, emptied, everyDestination, dropBetween, lost, parted, down, bit}
 use Rattle.model.specs.Events.{calls, eventOf}
 use Rattle.model.proofs.Refusals.{pair-tells, down-limited, sending-7, sending-accepted}
 use Rattle.model.proofs.EventLaws.{call-2}
 use Rattle.model.proofs.Rows.{takeOut-length, takeOut-full, emptied-full, takeOut-never, emptied-never, removes-never}
 use Rattle.rows.specs.declared.Row.{Row}
+use Rattle.rows.specs.View.{rowOf}
 use Rattle.network.specs.declared.Packet.{Packet}
 use Rattle.network.specs.declared.Memory.{Memory}
 use Rattle.network.specs.View.{zeroPacket, bodyOf, packetsOf, view}
-use Rattle.rows.specs.View.{rowOf}
 use Rattle.network.proofs.ViewLaws.{body-error}
 use Rattle.network.proofs.Ranged.{Ranged}
 use Rattle.station.specs.Reacting.{sentBy}
@@ -30,9 +31,9 @@ use Rattle.decisions.specs.declared.cutting.Cut.{Cut}
 use Rattle.decisions.specs.declared.cutting.Losses.{Losses}
 use Rattle.decisions.specs.Refusing.{Passes}
 use Rattle.steps.specs.Happens.{happened, Happens}
-use Rattle.steps.specs.Parting.{apart, restOf}
+use Rattle.steps.specs.Parting.{restOf}
 use Rattle.steps.proofs.PacketMoves as moves
-use Rattle.steps.proofs.PacketMoves.{without, exchanged}
+use Rattle.steps.proofs.PacketMoves.{exchanged}
 use Rattle.steps.proofs.RunLaws.{airing, Shape}
 use Rattle.steps.proofs.ArmLaws.{Tested, known, passes, happens-accepted, happens-7}
 use Rattle.steps.proofs.DeliverLaws.{arrives, carried, rest, delivered, deliver-7, deliver-accepted}
@@ -320,9 +321,9 @@ module _ {memory : Memory} {packets : List Packet} {count kind a b r : ℕ} (h :
 
     -- What `parted` gives at Down, and what `exchange` gives at an error.
     abbrev pub CutMoved : List Packet → Type 0
-    CutMoved packets′ = let air = apart (cut .first) (cut .second) (packetsOf packets count) in
+    CutMoved packets′ = let air = dropBetween (cut .first) (cut .second) (packetsOf packets count) in
         ((kind ≡ 2) × (packetsOf packets′ (length air + length sent + length more) ≡ (air ++ sent) ++ more))
-        ⊎ ((kind ≢ 2) × (packetsOf packets′ (stay + length sent) ≡ without (a % 128) (packetsOf packets (stay + 1)) ++ sent))
+        ⊎ ((kind ≢ 2) × (packetsOf packets′ (stay + length sent) ≡ removeAt (a % 128) (packetsOf packets (stay + 1)) ++ sent))
 
     moved : (packets′ : List Packet) → CutMoved packets′ → packetsOf packets′ (length left + length sent + length more) ≡ (left ++ sent) ++ more
     moved packets′ (inl (e, f)) = rw (moves.rest-down kind packets count (a % 128) (cut .first) (cut .second) e) f

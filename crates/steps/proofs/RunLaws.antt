@@ -16,10 +16,10 @@ use Rattle.model.specs.Events.{eventOf, eventAt, callsIn, afterEvents}
 use Rattle.model.specs.Printout.{Line, line, lineAt}
 use Rattle.model.proofs.Range.{Sized}
 use Rattle.model.proofs.EventLaws.{after-more}
+use Rattle.rows.specs.View.{rowOf}
 use Rattle.network.specs.declared.Packet.{Packet}
 use Rattle.network.specs.declared.Memory.{Memory}
 use Rattle.network.specs.View.{recordOf, labelOf, view}
-use Rattle.rows.specs.View.{rowOf}
 use Rattle.network.proofs.ViewLaws.{Labels}
 use Rattle.network.proofs.Ranged.{Ranged, in-range-ranged}
 use Rattle.steps.specs.declared.Happened.{Happened}

@@ -7,9 +7,10 @@ ghost use Prim.Native.Nat.{_+_, _-_, _<_, _≤_};
 ghost use lib.ListN.{length};
 ghost use Rattle.base.specs.Choice.{if_then_else_};
 ghost use Rattle.model.specs.Memory.{airLimit};
+ghost use Rattle.model.specs.Calls.{dropBetween};
 ghost use Rattle.network.specs.View.{packetsOf};
 ghost use Rattle.station.specs.Reacting.{sentBy};
-ghost use Rattle.steps.specs.Parting.{apart, restOf};
+ghost use Rattle.steps.specs.Parting.{restOf};
 use network::AIR_LIMIT;
 use network::Packet;
 use network::packets::without_between;
@@ -60,9 +61,9 @@ pub fn parted(
     q: Packet,
 ) -> [Packet; AIR_LIMIT as usize]
     requires { ⌜ (n ≤ 16) × (a < 16) × (b < 16) × (count ≤ airLimit) ⌝ }
-    requires { ⌜ length (apart a b (packetsOf packets count)) + length (sentBy scope links n a p) + length (sentBy other links n b q) ≤ airLimit ⌝ }
-    ensures { λ r. ⌜ packetsOf r (length (apart a b (packetsOf packets count)) + length (sentBy scope links n a p) + length (sentBy other links n b q))
-        ≡ (apart a b (packetsOf packets count) ++ sentBy scope links n a p) ++ sentBy other links n b q ⌝ }
+    requires { ⌜ length (dropBetween a b (packetsOf packets count)) + length (sentBy scope links n a p) + length (sentBy other links n b q) ≤ airLimit ⌝ }
+    ensures { λ r. ⌜ packetsOf r (length (dropBetween a b (packetsOf packets count)) + length (sentBy scope links n a p) + length (sentBy other links n b q))
+        ≡ (dropBetween a b (packetsOf packets count) ++ sentBy scope links n a p) ++ sentBy other links n b q ⌝ }
 {
     let rest = without_between(packets, count, a, b);
     let kept = rest.packets;

@@ -4,6 +4,7 @@ use mathlib.Core.Path.{_≡_, refl, subst, _∙_}
 use lib.ListN.{length, getD}
 use native.Mathlib.Omega.{arith}
 use borrow.Author.Needs.{needs}
+use Rattle.rows.specs.View.{zeroRow, rowOf}
 use Rattle.network.proofs.Bounds.{memory-lengths}
 use Rattle.base.proofs.Loops.{tabulate-map}
 use Rattle.label.specs.declared.Label.{Label}
@@ -11,7 +12,6 @@ use Rattle.codec.proofs.ByteLaws.{sets-over}
 use Rattle.model.specs.Memory as model
 use Rattle.network.specs.declared.Memory.{Memory}
 use Rattle.network.specs.View.{zeroRecord, recordOf, labelOf, view}
-use Rattle.rows.specs.View.{zeroRow, rowOf}
 use Rattle.layout.specs.Places.{layoutLength}
 use Rattle.layout.specs.Written.{networkBytes}
 use Rattle.layout.specs.Fits.{LabelFits, NetworkFits}

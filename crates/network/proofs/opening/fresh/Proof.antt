@@ -7,8 +7,8 @@ use borrow.Author.Needs.{needs}
 use Rattle.base.specs.Lists.{tabulate}
 use Rattle.label.specs.Label.{unassigned}
 use Rattle.model.specs.Memory.{freshLabels, freshRecord}
-use Rattle.network.specs.View.{recordOf, packetsOf, labelOf}
 use Rattle.rows.specs.View.{rowOf}
+use Rattle.network.specs.View.{recordOf, packetsOf, labelOf}
 use Rattle.network.proofs.ViewLaws.{Labels, labels-none, labels-own, view-fresh}
 use Rattle.network.proofs.opening.fresh.Statement.{statement}
 use Rattle.network.proofs.opening.fresh.Tie as tie

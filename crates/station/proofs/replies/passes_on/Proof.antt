@@ -3,8 +3,8 @@ use borrow.Author.Needs.{needs}
 use borrow.Author.Tests.{eq-eqb, ne-eqb}
 use Rattle.base.proofs.Loops.{tabulate-empty}
 use Rattle.model.specs.Calls.{passesOn}
-use Rattle.network.specs.View.{recordOf, replyOf}
 use Rattle.rows.specs.View.{rowOf}
+use Rattle.network.specs.View.{recordOf, replyOf}
 use Rattle.station.proofs.replies.passes_on.Statement.{statement}
 use Rattle.station.proofs.replies.passes_on.Tie as tie
 

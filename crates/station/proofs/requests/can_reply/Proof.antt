@@ -3,8 +3,8 @@ use borrow.Author.Needs.{needs}
 use borrow.Author.Tests.{eq-eqb, ne-eqb}
 use Rattle.base.proofs.Loops.{tabulate-empty}
 use Rattle.model.specs.Calls.{canReply}
-use Rattle.network.specs.View.{requestOf}
 use Rattle.rows.specs.View.{rowOf}
+use Rattle.network.specs.View.{requestOf}
 use Rattle.station.proofs.requests.can_reply.Statement.{statement}
 use Rattle.station.proofs.requests.can_reply.Tie as tie
 

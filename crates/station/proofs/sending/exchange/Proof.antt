@@ -1,12 +1,12 @@
 -- `sending::exchange` meets its contract, by its scope: the packets without packet k, and then those sent.
-use Prim.Native.Nat.{suc, _+_}
+use Prim.Native.Nat.{_+_}
 use mathlib.Core.Path.{_≡_, sym, ap, _∙_}
 use mathlib.Core.List.{List, [], _∷_, _++_, append-nil}
-use lib.ListN.{length, take, drop}
+use lib.ListN.{length}
 use native.Mathlib.Nat.{add-zero}
 use native.Mathlib.Omega.{arith}
 use borrow.Author.Needs.{needs}
-use Rattle.base.specs.Lists.{removed}
+use Rattle.base.specs.Lists.{removeAt, removed}
 use Rattle.base.proofs.Loops.{removed-length}
 use Rattle.model.specs.Memory as model
 use Rattle.model.specs.Memory.{airLimit}
@@ -30,7 +30,7 @@ rest-length c = removed-length _ _ _ (omega arith) (omega (arith, long c)) ∙ l
 
 rest-is : (c : tie.Start)
     → let all = packetsOf (c .args .packets) (c .args .last + 1) in
-    packetsOf (rest c) (c .args .last) ≡ take (c .args .k) all ++ drop (suc (c .args .k)) all
+    packetsOf (rest c) (c .args .last) ≡ removeAt (c .args .k) all
 rest-is c = packets-removed _ _ _ (omega arith) (omega (arith, long c))
 
 remove-requires : tie.Need-remove-requires

@@ -3,14 +3,14 @@ use mathlib.Core.Path.{_≡_, sym, ap, _∙_}
 use lib.ListN.{length}
 use native.Mathlib.Omega.{arith}
 use borrow.Author.Needs.{needs}
+use Rattle.model.specs.Calls.{dropBetween}
 use Rattle.network.specs.View.{packetsOf}
 use Rattle.network.proofs.PacketLaws.{air-length}
-use Rattle.steps.specs.Parting.{apart}
 use Rattle.steps.proofs.parting.parted.Statement.{statement}
 use Rattle.steps.proofs.parting.parted.Tie as tie
 
 -- So many packets are left.
-count-is : (c : tie.After-without-between) → let x = c .before .args in length (apart (x .a) (x .b) (packetsOf (x .packets) (x .count))) ≡ c .without-between .result .count
+count-is : (c : tie.After-without-between) → let x = c .before .args in length (dropBetween (x .a) (x .b) (packetsOf (x .packets) (x .count))) ≡ c .without-between .result .count
 count-is c = sym (ap length (c .without-between .ensures)) ∙ air-length (c .without-between .result)
 
 without-between-requires : tie.Need-without-between-requires

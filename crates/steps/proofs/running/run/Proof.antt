@@ -15,10 +15,10 @@ use Rattle.model.specs.Memory.{names, rowIn, rowAt, rowLimit, place, memoryInRa
 use Rattle.model.specs.Calls.{takeOut, bit, hopLimit, follow}
 use Rattle.model.specs.Events.{eventOf}
 use Rattle.rows.specs.declared.Row.{Row}
+use Rattle.rows.specs.View.{zeroRow, rowOf}
 use Rattle.network.specs.declared.Packet.{Packet}
 use Rattle.network.specs.declared.Memory.{Memory}
 use Rattle.network.specs.View.{zeroPacket, labelOf, view}
-use Rattle.rows.specs.View.{zeroRow, rowOf}
 use Rattle.network.proofs.ViewLaws.{row-at}
 use Rattle.network.proofs.Bounds.{memory-lengths, array-length}
 use Rattle.network.proofs.Ranged.{Ranged}
