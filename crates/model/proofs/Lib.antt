@@ -12,4 +12,5 @@ pub mod Tracing
 pub mod Walking
 pub mod EventLaws
 pub mod HistoryLaws
+pub mod PreviewLaws
 pub mod Narrowing

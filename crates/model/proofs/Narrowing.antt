@@ -9,9 +9,11 @@ use Rattle.base.specs.Choice.{if_then_else_}
 use Rattle.model.specs.Memory.{Network, memoryInRange}
 use Rattle.model.specs.Calls.{Call, Up, Down, Solicit, GiveUp, Expire, Deliver, Lose, Duplicate}
 use Rattle.model.specs.Calls.{notStation, notPair, notPacket, step, traced, trace}
+use Rattle.model.specs.Preview.{numberShown, preview}
 use Rattle.model.specs.Events.{usesOne, notEvent, callOf}
 use Rattle.model.proofs.Range.{Sized, Invariant, in-range-invariant}
 use Rattle.model.proofs.Refusals.{pair-tells, out-of-range, up-2, down-2, solicit-2, expire-2, give-up-2, deliver-6, lose-6, duplicate-6}
+use Rattle.model.proofs.PreviewLaws.{preview-refused, preview-out-of-range}
 use Rattle.model.proofs.Tracing.{trace-out-of-range, trace-no-pair}
 use Rattle.model.proofs.EventLaws.{call-on-memory}
 
@@ -76,6 +78,13 @@ module _ (net : Network) (sized : Sized net) (a b : ℕ) where
       go : (t : Bool) → memoryInRange net ≡ t → step (callOf kind (min a 255) (min b 255)) net ≡ step (callOf kind a b) net
       go true e = call-in-range e kind
       go false e = out-of-range _ net (call-on-memory kind (min a 255) (min b 255)) e ∙ sym (out-of-range _ net (call-on-memory kind a b) e)
+
+  pub preview-narrowed : preview net (min a 255) ≡ preview net a
+  preview-narrowed = go (memoryInRange net) refl
+    where
+      go : (t : Bool) → memoryInRange net ≡ t → preview net (min a 255) ≡ preview net a
+      go true e = narrowed (preview net) (numberShown 6) (λ x h. preview-refused net x 6 (deliver-6 net e x (no-packet e x h))) a
+      go false e = preview-out-of-range net (min a 255) e ∙ sym (preview-out-of-range net a e)
 
   pub trace-narrowed : trace net (min a 255) (min b 255) ≡ trace net a b
   trace-narrowed = go (memoryInRange net) refl

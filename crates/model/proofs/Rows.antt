@@ -2,7 +2,7 @@
 use Prim.Native.Nat.{ℕ, zero, suc, _+_, _^_, _≤_, _<_}
 use mathlib.Core.Path.{_≡_, refl, sym, ap, ap₂, subst, _∙_}
 use mathlib.Core.Logic.{_⊎_, inl, inr, _≢_}
-use mathlib.Core.Bool.{Bool, true, false, _&&_}
+use mathlib.Core.Bool.{Bool, true, false, not, _&&_, _||_, and-false}
 use mathlib.Core.List.{List, [], _∷_, _++_, map-append, tail}
 use mathlib.Core.List.{List·Memᴰ, List·Memᴰ·head, List·Memᴰ·tail, List·Memᴰ·not-nil, List·Memᴰ·cases-cons}
 use mathlib.Core.List.{List·Memᴰ·append-cases, List·Memᴰ·eq-of-singleton, Memᴰ·map, Memᴰ·of-map}
@@ -14,14 +14,14 @@ use native.Mathlib.Numerals.{add-one}
 use native.Mathlib.Omega.{arith}
 use borrow.Author.Tests.{lt-ltb, le-ltb, ltb-true, eqb-true, eqb-false, not-true}
 use Rattle.base.specs.Choice.{if_then_else_}
-use Rattle.base.specs.Lists.{allBelow, someBelow, someIn, keep, indexOf, distinct}
+use Rattle.base.specs.Lists.{allBelow, someBelow, someIn, keep, isEmpty, indexOf, distinct}
 use Rattle.base.proofs.Booleans.{neither, choose, cases, Trichotomy, less, equal, more, trichotomy}
 use Rattle.base.proofs.Lists.{all-below-at, none-in-at, all-kept, keep-mem, mem-tail, length-tail, set-either}
 use Rattle.base.proofs.Lists.{distinct-cons, distinct-first, distinct-rest, distinct-tail, distinct-last}
 use Rattle.label.specs.declared.Label.{Label}
 use Rattle.label.specs.Label.{_≻_}
 use Rattle.model.specs.Memory.{Successor, Row, place, rowIn, names, stations, without, under, replace, withRoom, put, rowLimit}
-use Rattle.model.specs.Calls.{takeOut, removes, empties, emptied, everyDestination, bit}
+use Rattle.model.specs.Calls.{maskOf, takeOut, removes, empties, emptied, everyDestination, bit}
 
 station-mem : (r : Row) {e : Successor} → List·Memᴰ e r → List·Memᴰ (e .station) (stations r)
 station-mem r m = Memᴰ·map (λ e. e .station) m
@@ -183,55 +183,36 @@ module _ (masked : ℕ → Bool) (leaves : Successor → Bool) (i : ℕ) (rows :
       (λ q. subst (λ k. P (without leaves (getD rows k []))) q new) h)
       (λ e. h)
 
-  -- The row of a masked destination is without them.
-  pub takeOut-masked : (c t : ℕ) → i < 16 → c ≤ 16 → length rows ≡ 256 → t < c → masked t ≡ true
-      → rowIn (takeOut masked leaves i c rows) i t ≡ without leaves (rowIn rows i t)
-  unfolding takeOut
-  takeOut-masked zero t hi hc len h e = absurd (omega arith)
-  takeOut-masked (suc c) t hi hc len h e = go (trichotomy t c) (λ l. takeOut-masked c t hi (omega arith) len l e)
-    where
-      before : List Row
-      before = takeOut masked leaves i c rows
-
-      Goal : List Row → Type 0
-      Goal z = rowIn z i t ≡ without leaves (rowIn rows i t)
-
-      go : Trichotomy t c → (t < c → Goal before) → Goal (if masked c then set before (place i c) (without leaves (rowIn rows i c)) else before)
-      go (less l) ih =
-          choose Goal (masked c) (λ q. getD-set-other before (place i c) (place i t) _ [] (λ p. omega arith) ∙ ih l) (λ q. ih l)
-      go (equal q) ih =
-          rw (sym q, e) (getD-set-same (takeOut masked leaves i t rows) (place i t) _ [] (omega (arith, takeOut-length t)))
-      go (more l) ih = absurd (omega arith)
-
--- A mask of rows emptied has no bit from c up.
-pub emptied-below : (masked : ℕ → Bool) (leaves : Successor → Bool) (i c : ℕ) (rows : List Row) → emptied masked leaves i c rows < 2 ^ c
-unfolding emptied
-emptied-below masked leaves i zero rows = omega arith
-emptied-below masked leaves i (suc t) rows = go (masked t && empties leaves (rowIn rows i t)) (emptied-below masked leaves i t rows)
+-- A mask has no bit from c up, and reads its test only below c.
+pub mask-below : (c : ℕ) (picks : ℕ → Bool) → maskOf c picks < 2 ^ c
+unfolding maskOf
+mask-below zero picks = omega arith
+mask-below (suc t) picks = go (picks t) (mask-below t picks)
   where
-    go : (b : Bool) → emptied masked leaves i t rows < 2 ^ t → emptied masked leaves i t rows + (if b then 2 ^ t else 0) < 2 ^ suc t
+    go : (b : Bool) → maskOf t picks < 2 ^ t → maskOf t picks + (if b then 2 ^ t else 0) < 2 ^ suc t
     go true h = omega arith
     go false h = omega arith
 
--- Taking out reads the test only below c, and i's rows only.
-module _ (masked other : ℕ → Bool) (leaves : Successor → Bool) (i : ℕ) (rows : List Row) where
-  takeOut-same : (c : ℕ) → ((t : ℕ) → t < c → masked t ≡ other t) → takeOut masked leaves i c rows ≡ takeOut other leaves i c rows
-  unfolding takeOut
-  takeOut-same zero h = refl
-  takeOut-same (suc c) h = rw (h c (omega arith), takeOut-same c (λ t l. h t (omega arith)))
+mask-same : (c : ℕ) (picks others : ℕ → Bool) → ((t : ℕ) → t < c → picks t ≡ others t) → maskOf c picks ≡ maskOf c others
+unfolding maskOf
+mask-same zero picks others h = refl
+mask-same (suc c) picks others h = rw (h c (omega arith), mask-same c picks others (λ t l. h t (omega arith)))
 
-  emptied-same : (c : ℕ) → ((t : ℕ) → t < c → masked t ≡ other t) → emptied masked leaves i c rows ≡ emptied other leaves i c rows
-  unfolding emptied
-  emptied-same zero h = refl
-  emptied-same (suc c) h = rw (h c (omega arith), emptied-same c (λ t l. h t (omega arith)))
+mask-none : (c : ℕ) (picks : ℕ → Bool) → ((t : ℕ) → picks t ≡ false) → maskOf c picks ≡ 0
+unfolding maskOf
+mask-none zero picks h = refl
+mask-none (suc c) picks h = rw (h c, mask-none c picks h)
 
-pub emptied-rows : (masked : ℕ → Bool) (leaves : Successor → Bool) (i : ℕ) (rows others : List Row) (c : ℕ)
-    → ((t : ℕ) → t < c → rowIn rows i t ≡ rowIn others i t) → emptied masked leaves i c rows ≡ emptied masked leaves i c others
+pub emptied-below : (masked : ℕ → Bool) (leaves : Successor → Bool) (i c : ℕ) (rows : List Row) → emptied masked leaves i c rows < 2 ^ c
 unfolding emptied
-emptied-rows masked leaves i rows others zero h = refl
-emptied-rows masked leaves i rows others (suc c) h =
-    ap₂ (λ (x : ℕ) (r : Row). x + (if masked c && empties leaves r then 2 ^ c else 0))
-    (emptied-rows masked leaves i rows others c (λ t l. h t (omega arith))) (h c (omega arith))
+emptied-below masked leaves i c rows = mask-below c _
+
+-- Taking out reads the test only below c.
+takeOut-same : (masked other : ℕ → Bool) (leaves : Successor → Bool) (i : ℕ) (rows : List Row) (c : ℕ) → ((t : ℕ) → t < c → masked t ≡ other t)
+    → takeOut masked leaves i c rows ≡ takeOut other leaves i c rows
+unfolding takeOut
+takeOut-same masked other leaves i rows zero h = refl
+takeOut-same masked other leaves i rows (suc c) h = rw (h c (omega arith), takeOut-same masked other leaves i rows c (λ t l. h t (omega arith)))
 
 -- Another station's rows are as they were.
 pub takeOut-other : (masked : ℕ → Bool) (leaves : Successor → Bool) (i j : ℕ) (rows : List Row) → i ≢ j → (c t : ℕ) → c ≤ 16 → t < 16
@@ -254,7 +235,8 @@ module _ (leaves : Successor → Bool) (i c : ℕ) (rows : List Row) (h : c ≤ 
   takeOut-full = takeOut-same (bit 65535) everyDestination leaves i rows c (λ t l. full-mask t (omega arith))
 
   pub emptied-full : emptied (bit 65535) leaves i c rows ≡ emptied everyDestination leaves i c rows
-  emptied-full = emptied-same (bit 65535) everyDestination leaves i rows c (λ t l. full-mask t (omega arith))
+  unfolding emptied
+  emptied-full = mask-same c _ _ (λ t l. ap (λ x. x && empties leaves (rowIn rows i t)) (full-mask t (omega arith)))
 
 -- Entries taken out one destination after the other.
 module _ (masked : ℕ → Bool) (leaves : Successor → Bool) (i : ℕ) (rows : List Row) where
@@ -278,6 +260,23 @@ module _ (masked : ℕ → Bool) (leaves : Successor → Bool) (i : ℕ) (rows :
       go : (x : Bool) → (if x then set before (place i c) (without leaves (rowIn rows i c)) else before) ≡ set before (place i c) ((if x then without leaves (rowIn rows i c) else rowIn rows i c))
       go true = refl
       go false = sym (ap (set before (place i c)) (sym (takeOut-rest c c (omega arith))) ∙ set-getD before (place i c) [])
+
+  -- The row of a destination below c is without them, or as it was where the destination is not masked.
+  pub takeOut-at : (c t : ℕ) → i < 16 → c ≤ 16 → length rows ≡ 256 → t < c
+      → rowIn (takeOut masked leaves i c rows) i t ≡ (if masked t then without leaves (rowIn rows i t) else rowIn rows i t)
+  takeOut-at zero t hi hc len h = absurd (omega arith)
+  takeOut-at (suc c) t hi hc len h = ap (λ (z : List Row). rowIn z i t) (rw add-one at (takeOut-more c)) ∙ go (trichotomy t c) (λ l. takeOut-at c t hi (omega arith) len l)
+    where
+      before : List Row
+      before = takeOut masked leaves i c rows
+
+      cut : ℕ → Row
+      cut u = if masked u then without leaves (rowIn rows i u) else rowIn rows i u
+
+      go : Trichotomy t c → (t < c → rowIn before i t ≡ cut t) → rowIn (set before (place i c) (cut c)) i t ≡ cut t
+      go (less l) ih = getD-set-other before (place i c) (place i t) (cut c) [] (λ p. omega arith) ∙ ih l
+      go (equal q) ih = rw (sym q) (getD-set-same (takeOut masked leaves i t rows) (place i t) (cut t) [] (omega (arith, takeOut-length masked leaves i rows t)))
+      go (more l) ih = absurd (omega arith)
 
   -- Where nothing is removed they are all as they were.
   pub takeOut-none : (c : ℕ) → removes masked leaves i c rows ≡ false → takeOut masked leaves i c rows ≡ rows
@@ -323,10 +322,32 @@ module _ (leaves : Successor → Bool) (i : ℕ) (rows : List Row) where
 
   pub emptied-never : (c : ℕ) → emptied (bit 0) leaves i c rows ≡ 0
   unfolding emptied
-  emptied-never zero = refl
-  emptied-never (suc c) = rw (never c, emptied-never c)
+  emptied-never c = mask-none c _ (λ t. rw (never t))
 
   pub removes-never : (c : ℕ) → removes (bit 0) leaves i c rows ≡ false
   unfolding removes someBelow
   removes-never zero = refl
   removes-never (suc c) = rw (never c, removes-never c)
+
+-- A row is emptied where it has entries, and none is left once those that leave are taken out.
+row-emptied : (masked : Bool) (leaves : Successor → Bool) (r : Row)
+    → not (isEmpty r) && isEmpty (if masked then without leaves r else r) ≡ masked && empties leaves r
+unfolding isEmpty empties without keep someIn
+row-emptied false leaves [] = refl
+row-emptied false leaves (e ∷ r) = refl
+row-emptied true leaves r = go r
+  where
+    go : (r : Row) → not (isEmpty r) && isEmpty (without leaves r) ≡ empties leaves r
+    go [] = refl
+    go (e ∷ r) = first (leaves e)
+      where
+        first : (x : Bool) → isEmpty (if not x then e ∷ without leaves r else without leaves r) ≡ (x || someIn leaves r) && isEmpty (if not x then e ∷ without leaves r else without leaves r)
+        first true = refl
+        first false = sym (and-false (someIn leaves r))
+
+-- The mask of the rows that taking out empties, by the rows before and after.
+pub mask-emptied : (masked : ℕ → Bool) (leaves : Successor → Bool) (i c : ℕ) (rows : List Row) → i < 16 → c ≤ 16 → length rows ≡ 256
+    → maskOf c (λ t. not (isEmpty (rowIn rows i t)) && isEmpty (rowIn (takeOut masked leaves i c rows) i t)) ≡ emptied masked leaves i c rows
+unfolding emptied
+mask-emptied masked leaves i c rows hi hc len =
+    mask-same c _ _ (λ t l. ap (λ (z : Row). not (isEmpty (rowIn rows i t)) && isEmpty z) (takeOut-at masked leaves i rows c t hi hc len l) ∙ row-emptied (masked t) leaves (rowIn rows i t))

@@ -15,7 +15,7 @@ use Rattle.label.specs.declared.Label.{Label}
 use Rattle.model.specs.Memory.{Successor, Row, Body, error, Packet, Network, rowIn, pairPlace, linkIn, linkUp, setRows, setLinks, setAir, names, without}
 use Rattle.model.specs.Calls.{packet, send, sending, neighbours, copies, errors, takeOut}
 use Rattle.model.specs.Calls.{between, everyDestination, lost, parted, down, removePacket}
-use Rattle.model.proofs.Rows.{without-mem, without-names, takeOut-length, takeOut-either, takeOut-masked, emptied-below}
+use Rattle.model.proofs.Rows.{without-mem, without-names, takeOut-length, takeOut-either, takeOut-at, emptied-below}
 use Rattle.model.proofs.Links.{link-apart, link-set-up, link-other}
 use Rattle.model.proofs.Invariant.{BodyOk, Advertised, PacketOk, AirOk, CellOk, TablesOk, WellFormed}
 use Rattle.model.proofs.Invariant.{well-formed-links, well-formed-air, cell-keep, tables-links, air-links}
@@ -128,7 +128,7 @@ module _ {Reachable : Type 0} (a b : ℕ) (net : Network) (ok : WellFormed Reach
   unfolding R₁ everyDestination
   a-left₁ t ht e m =
       let high = ok .high in
-      let row = takeOut-masked everyDestination (names b) a (net .rows) (net .n) t (omega arith) high (ok .tables .rows-length) ht refl in
+      let row = takeOut-at everyDestination (names b) a (net .rows) (net .n) t (omega arith) high (ok .tables .rows-length) ht in
       without-names b (rowIn (net .rows) a t) (subst (List·Memᴰ e) row m)
 
   a-left : (t : ℕ) → t < net .n → (e : Successor) → List·Memᴰ e (rowIn R₂ a t) → e .station ≢ b
@@ -141,7 +141,7 @@ module _ {Reachable : Type 0} (a b : ℕ) (net : Network) (ok : WellFormed Reach
   unfolding R₂ everyDestination
   b-left t ht e m =
       let high = ok .high in
-      let row = takeOut-masked everyDestination (names a) b R₁ (net .n) t (omega arith) high (T₁ .rows-length) ht refl in
+      let row = takeOut-at everyDestination (names a) b R₁ (net .n) t (omega arith) high (T₁ .rows-length) ht in
       without-names a (rowIn R₁ b t) (subst (List·Memᴰ e) row m)
 
   pub well-formed-parted : WellFormed Reachable (parted a b net)

@@ -78,6 +78,11 @@ copies net a body = map (λ b. packet a b body) (neighbours net a)
 unfoldable pub errors : Network → ℕ → ℕ → List Packet
 errors net a mask = if eqb mask 0 then [] else copies net a (error mask)
 
+-- A mask, "weight 2^t for destination t": of the destinations below c that a test picks.
+unfoldable pub maskOf : ℕ → (ℕ → Bool) → ℕ
+maskOf zero picks = 0
+maskOf (suc t) picks = maskOf t picks + (if picks t then 2 ^ t else 0)
+
 -- Taking entries out of i's rows: those that a test picks, in the rows for the destinations below c that another picks.
 unfoldable pub takeOut : (ℕ → Bool) → (Successor → Bool) → ℕ → ℕ → List Row → List Row
 takeOut masked leaves i zero rows = rows
@@ -94,9 +99,7 @@ unfoldable pub empties : (Successor → Bool) → Row → Bool
 empties leaves r = someIn leaves r && isEmpty (without leaves r)
 
 unfoldable pub emptied : (ℕ → Bool) → (Successor → Bool) → ℕ → ℕ → List Row → ℕ
-emptied masked leaves i zero rows = 0
-emptied masked leaves i (suc t) rows =
-    emptied masked leaves i t rows + (if masked t && empties leaves (rowIn rows i t) then 2 ^ t else 0)
+emptied masked leaves i c rows = maskOf c (λ t. masked t && empties leaves (rowIn rows i t))
 
 -- Down: "first sets it down, drops packets between a and b, takes each out of the other's rows; then a, then b, broadcasts an error with the
 -- mask of its rows emptied, if any".

@@ -1,5 +1,6 @@
 pub mod Memory
 pub mod Calls
+pub mod Preview
 pub mod Walks
 pub mod Histories
 pub mod Events

@@ -69,6 +69,9 @@ pub packets-length : (a : Air) → ValidAir a → length (a .packets) ≡ airLim
 packets-length a valid = unmapped _ (a .packets) airLimit (valid .1 .1 .0 .1 .0 .1)
 
 pub record MemoryLengths (m : Memory) : Type 0 where
+  pub s-length : length (m .s) ≡ 256
+  pub m-length : length (m .m) ≡ 256
+  pub d-length : length (m .d) ≡ 256
   pub rows-length : length (m .rows) ≡ 256
   pub records-length : length (m .records) ≡ 256
   pub sought-length : length (m .sought) ≡ 16
@@ -77,6 +80,9 @@ pub record MemoryLengths (m : Memory) : Type 0 where
 
 pub memory-lengths : (m : Memory) → ValidMemory m → MemoryLengths m
 memory-lengths m valid = record {
+  s-length = unmapped _ (m .s) 256 (valid .1 .1 .0 .1 .0 .1);
+  m-length = unmapped _ (m .m) 256 (valid .1 .1 .1 .0 .1 .0 .1);
+  d-length = unmapped _ (m .d) 256 (valid .1 .1 .1 .1 .0 .1 .0 .1);
   rows-length = unmapped _ (m .rows) 256 (valid .1 .1 .1 .1 .1 .0 .1 .0 .1);
   records-length = unmapped _ (m .records) 256 (valid .1 .1 .1 .1 .1 .1 .0 .1 .0 .1);
   sought-length = unmapped _ (m .sought) 16 (valid .1 .1 .1 .1 .1 .1 .1 .1 .1 .0 .1 .0 .1);

@@ -100,7 +100,7 @@ module _ {memory : Memory} {packets : List Packet} {count kind a b r : ℕ} {w :
       class-other kind (p .kind) (g .other-0) (g .other-1) (g .other-2) (k .0) (k .1)
 
   -- The receiver of a request or a reply stands where it is looked for.
-  receiver : (e : kind ≡ 6) → p .kind ≢ 3 → (w .station ≡ p .receiver) × (w .destination ≡ p .destination) × (w .source ≡ p .source)
+  pub receiver : (e : kind ≡ 6) → p .kind ≢ 3 → (w .station ≡ p .receiver) × (w .destination ≡ p .destination) × (w .source ≡ p .source)
   receiver e q =
       let s = g .packet-spot e in
       let c = carried (g .tested) (g .zero-is) e in

@@ -14,7 +14,7 @@ use Rattle.base.proofs.Booleans.{neither}
 use Rattle.base.proofs.Lists.{map-set}
 use Rattle.model.specs.Memory as model
 use Rattle.model.specs.Memory.{Successor, place, rowIn, names, without}
-use Rattle.model.specs.Calls.{bit, takeOut, removes, empties, emptied}
+use Rattle.model.specs.Calls.{maskOf, bit, takeOut, removes, empties, emptied}
 use Rattle.model.proofs.Rows.{emptied-below, takeOut-other, takeOut-more, takeOut-none, set-takeOut}
 use Rattle.rows.specs.declared.Row.{Row}
 use Rattle.rows.specs.View.{zeroRow, rowOf}
@@ -40,7 +40,7 @@ or-pairs false false c d = refl
 
 module _ {cut : Cut} {rows : List model.Row} where
   pub lost-none : Lost cut rows 0 (record { emptied = 0; others = 0; removed = false })
-  unfolding emptied removes someBelow
+  unfolding emptied maskOf removes someBelow
   lost-none = record { emptied-is = refl; others-are = refl; removed-is = refl }
 
   module _ {t : ℕ} {losses : Losses} (k : Lost cut rows t losses) where
@@ -55,7 +55,7 @@ module _ {cut : Cut} {rows : List model.Row} where
         → next .others ≡ losses .others + (if bit (cut .others) t && empties (names (cut .first)) other then 2 ^ t else 0)
         → next .removed ≡ losses .removed || bit (cut .mask) t && someIn (names (cut .second)) row || bit (cut .others) t && someIn (names (cut .first)) other
         → Lost cut rows (t + 1) next
-    unfolding emptied removes someBelow
+    unfolding emptied maskOf removes someBelow
     lost-more p q e f g = record {
       emptied-is = rw add-one (e ∙ rw (k .emptied-is, p));
       others-are = rw add-one (f ∙ rw (k .others-are, q));

@@ -1,9 +1,9 @@
--- A request or a reply delivered, as a turn of the run makes it.
+-- A packet delivered: what Deliver gives, by what its receiver does; and a request or a reply, as a turn of the run makes it.
 use Prim.Native.Nat.{ℕ, _+_, _-_, _%_, _≤_, _<_}
 use mathlib.Core.Path.{_≡_, refl, sym, ap, _∙_}
 use mathlib.Core.Logic.{_≢_}
-use mathlib.Core.Bool.{false}
-use mathlib.Core.List.{List, _++_}
+use mathlib.Core.Bool.{false, or-false}
+use mathlib.Core.List.{List, _++_, map}
 use lib.ListN.{length, getD, set}
 use native.Mathlib.Omega.{arith}
 use Rattle.base.specs.Results.{refused, accepted}
@@ -11,28 +11,33 @@ use Rattle.base.specs.Lists.{removeAt}
 use Rattle.base.proofs.Lists.{map-set}
 use Rattle.label.specs.declared.Label.{Label}
 use Rattle.model.specs.Memory as model
-use Rattle.model.specs.Memory.{place, setLabels, setRows, setRecords, setActives, setAir, airLimit}
-use Rattle.model.specs.Calls.{Deliver, Effect, effect, limited, send, sending, removePacket, receive, deliver, step}
+use Rattle.model.specs.Memory.{place, names, setLabels, setRows, setRecords, setActives, setAir, airLimit}
+use Rattle.model.specs.Calls.{Deliver, Effect, effect, limited, send, sending, errors, takeOut, removes, emptied, bit}
+use Rattle.model.specs.Calls.{errorOutcome, onError, removePacket, receive, deliver, step}
 use Rattle.model.specs.Events.{calls, eventOf}
 use Rattle.model.proofs.Refusals.{deliver-limited, sending-7, sending-accepted}
 use Rattle.model.proofs.EventLaws.{call-6}
+use Rattle.model.proofs.Rows.{emptied-never, removes-never}
 use Rattle.rows.specs.View.{zeroRow, rowOf}
 use Rattle.network.specs.declared.Packet.{Packet}
 use Rattle.network.specs.declared.Memory.{Memory}
 use Rattle.network.specs.View.{zeroNumber, zeroRecord, zeroPacket, recordOf, bodyOf, packetOf, packetsOf, labelOf, view}
-use Rattle.network.proofs.ViewLaws.{row-at, record-at, number-at, label-at, labels-set}
+use Rattle.network.proofs.ViewLaws.{body-error, row-at, record-at, number-at, label-at, labels-set}
 use Rattle.network.proofs.PacketLaws.{packets-at}
 use Rattle.network.proofs.Ranged.{Carried, Ranged}
 use Rattle.station.specs.declared.Holding.{Holding}
 use Rattle.station.specs.declared.Reaction.{Reaction}
 use Rattle.station.specs.Reacting.{sentBy, Holds, holding, reacts}
 use Rattle.station.specs.Replying.{LastRequest, Ready}
+use Rattle.decisions.specs.declared.cutting.Cut.{Cut}
+use Rattle.decisions.specs.declared.cutting.Losses.{Losses}
 use Rattle.decisions.specs.Refusing.{Passes}
 use Rattle.steps.specs.Happens.{happened, Happens}
 use Rattle.steps.proofs.PacketMoves.{removeAt-length}
 use Rattle.steps.proofs.RunLaws.{airing, shape-sized}
 use Rattle.steps.proofs.ArmLaws.{Tested, known, passes, happens-accepted, happens-7}
 use Rattle.steps.proofs.AirLaws.{packet-there}
+use Rattle.steps.proofs.CutLaws.{Lost}
 
 module _ {memory : Memory} {packets : List Packet} {count kind a b r : ℕ} (h : Tested memory packets count kind a b r) (zero : r ≡ 0) (e : kind ≡ 6) where
   abbrev m : Memory
@@ -61,7 +66,7 @@ module _ {memory : Memory} {packets : List Packet} {count kind a b r : ℕ} (h :
   pub rest-length : length rest ≡ count - 1
   rest-length = removeAt-length packets count a (arrives .0)
 
-  abbrev flying : model.Network
+  abbrev pub flying : model.Network
   flying = setAir rest (view m)
 
   pub delivered : step (Deliver a) (view m) ≡ limited (receive (p .receiver) (p .sender) (bodyOf p) flying)
@@ -76,6 +81,29 @@ module _ {memory : Memory} {packets : List Packet} {count kind a b r : ℕ} (h :
   pub deliver-accepted : (next : Memory) (answer sent : ℕ) (f : Effect) → step (Deliver a) (view m) ≡ accepted f → effect answer sent (view next) ≡ f
       → Happens m (eventOf kind a b) (happened next answer sent 0)
   deliver-accepted next answer sent f s same = happens-accepted h zero (Deliver a) (delivers .0) next answer sent f s same
+
+  -- An error, and what its receiver's rows lose.
+  module _ (is-error : p .kind ≡ 3) {cut : Cut} {losses : Losses} (cuts : (cut .first ≡ p .receiver) × (cut .second ≡ p .sender) × (cut .mask ≡ p .mask) × (cut .others ≡ 0))
+      (lost : Lost cut (map rowOf (memory .rows)) (memory .n) losses) where
+    abbrev all : List model.Row
+    all = map rowOf (memory .rows)
+
+    pub gone-is : losses .emptied ≡ emptied (bit (p .mask)) (names (p .sender)) (p .receiver) (memory .n) all
+    gone-is = lost .emptied-is ∙ rw (cuts .0, cuts .1, cuts .2)
+
+    pub others-none : losses .others ≡ 0
+    others-none = lost .others-are ∙ rw (cuts .0, cuts .1, cuts .3) (emptied-never (names (p .receiver)) (p .sender) all (memory .n))
+
+    removed-is : losses .removed ≡ removes (bit (p .mask)) (names (p .sender)) (p .receiver) (memory .n) all
+    removed-is = lost .removed-is ∙ rw (cuts .0, cuts .1, cuts .2, cuts .3, removes-never (names (p .receiver)) (p .sender) all (memory .n)) (or-false _)
+
+    -- The network without those entries.
+    abbrev pub bereft : model.Network
+    bereft = setRows (takeOut (bit (p .mask)) (names (p .sender)) (p .receiver) (memory .n) all) flying
+
+    pub error-does : step (Deliver a) (view m) ≡ limited (sending (errorOutcome (losses .removed) (losses .emptied)) (errors flying (p .receiver) (losses .emptied)) bereft)
+    unfolding receive onError view setAir
+    error-does = delivered ∙ ap limited (rw (body-error p is-error, removed-is, gone-is))
 
   -- A request or a reply, and what its receiver holds.
   module _ (q : p .kind ≢ 3) (cell slot : ℕ) (l : Label) (cell-is : cell ≡ place (p .receiver) (p .destination)) (slot-is : slot ≡ place (p .receiver) (p .source))
@@ -133,15 +161,15 @@ module _ {memory : Memory} {packets : List Packet} {count kind a b r : ℕ} (h :
       abbrev sent : List model.Packet
       sent = sentBy (f .scope) (memory .links) (memory .n) (p .receiver) (f .packet)
 
-      reacts-so : step (Deliver a) (view m) ≡ limited (reacts f p flying)
+      pub reaction-does : step (Deliver a) (view m) ≡ limited (reacts f p flying)
       unfolding view setAir
-      reacts-so =
+      reaction-does =
           delivered
           ∙ ap limited (sym (reacted flying holds (record { number-is = number-at (memory .numbers) (p .receiver); sought-is = refl }) refl))
 
       pub reaction-7 : airLimit < count - 1 + length sent → Happens m (eventOf kind a b) (happened m 7 0 0)
       unfolding reacts holding view setAir setLabels setRows setRecords setActives
-      reaction-7 full = deliver-7 (reacts-so ∙ sending-7 _ _ _ (rw rest-length full))
+      reaction-7 full = deliver-7 (reaction-does ∙ sending-7 _ _ _ (rw rest-length full))
 
       pub reaction-happens : (packets′ : List Packet) → count - 1 + length sent ≤ airLimit → packetsOf packets′ (count - 1 + length sent) ≡ rest ++ sent
           → Happens m (eventOf kind a b) (happened (record {
@@ -159,7 +187,7 @@ module _ {memory : Memory} {packets : List Packet} {count kind a b r : ℕ} (h :
           }) (f .answer) (length sent) 0)
       unfolding reacts holding view setAir setLabels setRows setRecords setActives sending send
       reaction-happens packets′ room g =
-          deliver-accepted _ (f .answer) (length sent) (reacts f p flying) (reacts-so ∙ sending-accepted (f .answer) sent (holding p (f .holding) flying) (rw rest-length room))
+          deliver-accepted _ (f .answer) (length sent) (reacts f p flying) (reaction-does ∙ sending-accepted (f .answer) sent (holding p (f .holding) flying) (rw rest-length room))
           (rw (
             labels-set (memory .s) (memory .m) (memory .d) (h .shape .labels) cell _ _ _ (omega (arith, cell-is, inside)),
             map-set rowOf (memory .rows),

@@ -36,7 +36,7 @@ use Rattle.steps.proofs.PacketMoves as moves
 use Rattle.steps.proofs.PacketMoves.{exchanged}
 use Rattle.steps.proofs.RunLaws.{airing, Shape}
 use Rattle.steps.proofs.ArmLaws.{Tested, known, passes, happens-accepted, happens-7}
-use Rattle.steps.proofs.DeliverLaws.{arrives, carried, rest, delivered, deliver-7, deliver-accepted}
+use Rattle.steps.proofs.DeliverLaws.{arrives, carried, flying, deliver-7, deliver-accepted, others-none, bereft, error-does}
 use Rattle.steps.proofs.CutLaws.{Lost}
 
 module _ {memory : Memory} {packets : List Packet} {count kind a b r : ℕ} (h : Tested memory packets count kind a b r) (none : r ≡ 0) where
@@ -226,45 +226,31 @@ module _ {memory : Memory} {packets : List Packet} {count kind a b r : ℕ} (h :
 
   -- An error p, from j to i.
   module _ (e : kind ≡ 6) (is-error : p .kind ≡ 3) where
-    abbrev flying : Network
-    flying = setAir (rest h zero e) (view m)
-
-    error-is : step (Deliver a) (view m) ≡ limited (onError (p .receiver) (p .sender) (p .mask) flying)
-    unfolding receive
-    error-is = delivered h zero e ∙ ap limited (rw (body-error p is-error))
-
     links-error : links ≡ memory .links
     links-error = let w = g .error-cuts e in rw (g .links-are, e) (ap (set (memory .links) _) (and-true _) ∙ set-getD (memory .links) _ false)
 
-    rest-error : left ≡ flying .air
+    abbrev away : Network
+    away = flying h zero e
+
+    abbrev cut-away : Network
+    cut-away = bereft h zero e is-error (g .error-cuts e) (g .lost-is)
+
+    rest-error : left ≡ away .air
     unfolding restOf setAir
     rest-error = rw (e, arrives h zero e .1)
 
-    gone-is : losses .emptied ≡ emptied (bit (p .mask)) (names (p .sender)) (p .receiver) (memory .n) all
-    gone-is = let w = g .error-cuts e in g .lost-is .emptied-is ∙ rw (w .0, w .1, w .2)
-
-    removed-is : losses .removed ≡ removes (bit (p .mask)) (names (p .sender)) (p .receiver) (memory .n) all
-    removed-is =
-        let w = g .error-cuts e in
-        g .lost-is .removed-is ∙ rw (w .0, w .1, w .2, w .3, removes-never (names (p .receiver)) (p .sender) all (memory .n)) (or-false _)
-
-    first-error : sent ≡ errors flying (p .receiver) (losses .emptied)
+    first-error : sent ≡ errors away (p .receiver) (losses .emptied)
     unfolding view setAir
-    first-error = let w = g .error-cuts e in rw (links-error, w .0) (g .first-sends flying (p .receiver) q (g .first-is))
+    first-error = let w = g .error-cuts e in rw (links-error, w .0) (g .first-sends away (p .receiver) q (g .first-is))
 
     second-error : more ≡ []
     unfolding view setAir errors
     second-error =
         let w = g .error-cuts e in
-        let none : losses .others ≡ 0 = g .lost-is .others-are ∙ rw (w .0, w .1, w .3) (emptied-never (names (p .receiver)) (p .sender) all (memory .n)) in
-        rw (links-error, w .1) (g .second-sends flying (p .sender) z (g .second-is) ∙ rw none)
+        rw (links-error, w .1) (g .second-sends away (p .sender) z (g .second-is) ∙ rw (others-none h zero e is-error w (g .lost-is)))
 
-    abbrev after-error : Network
-    after-error = setRows (takeOut (bit (p .mask)) (names (p .sender)) (p .receiver) (memory .n) all) flying
-
-    onError-is : onError (p .receiver) (p .sender) (p .mask) flying ≡ sending (errorOutcome (losses .removed) (losses .emptied)) sent after-error
-    unfolding onError view setAir
-    onError-is = rw (removed-is, first-error, gone-is)
+    does : step (Deliver a) (view m) ≡ limited (sending (errorOutcome (losses .removed) (losses .emptied)) sent cut-away)
+    does = error-does h zero e is-error (g .error-cuts e) (g .lost-is) ∙ rw first-error
 
     few : length more ≡ 0
     few = ap length second-error
@@ -273,14 +259,14 @@ module _ {memory : Memory} {packets : List Packet} {count kind a b r : ℕ} (h :
     unfolding setRows
     error-7 full =
         deliver-7 h zero e
-        (error-is ∙ ap limited onError-is ∙ sending-7 (errorOutcome (losses .removed) (losses .emptied)) sent after-error (omega (arith, ap length rest-error, few)))
+        (does ∙ sending-7 (errorOutcome (losses .removed) (losses .emptied)) sent cut-away (omega (arith, ap length rest-error, few)))
 
     rows-error : taken ≡ takeOut (bit (p .mask)) (names (p .sender)) (p .receiver) (memory .n) all
     rows-error = let w = g .error-cuts e in rw (w .0, w .1, w .2, w .3) (takeOut-never (names (p .receiver)) (p .sender) _ (memory .n))
 
     done-error : (rows : List Row) (packets′ : List Packet) (answer : ℕ) → map rowOf rows ≡ taken → packetsOf packets′ (length left + length sent + length more) ≡ (left ++ sent) ++ more
         → answer ≡ errorOutcome (losses .removed) (losses .emptied)
-        → effect answer (length sent + length more) (view (flown rows packets′)) ≡ sending (errorOutcome (losses .removed) (losses .emptied)) sent after-error
+        → effect answer (length sent + length more) (view (flown rows packets′)) ≡ sending (errorOutcome (losses .removed) (losses .emptied)) sent cut-away
     unfolding setRows setAir view sending send
     done-error rows packets′ answer t f outcome =
         let total : length sent + length more ≡ length sent = omega (arith, few) in
@@ -298,8 +284,8 @@ module _ {memory : Memory} {packets : List Packet} {count kind a b r : ℕ} (h :
         → Happens m (eventOf kind a b) (happened (flown rows packets′) answer (length sent + length more) 0)
     unfolding setRows
     error-happens rows packets′ answer room t f outcome =
-        deliver-accepted h zero e (flown rows packets′) answer (length sent + length more) (sending (errorOutcome (losses .removed) (losses .emptied)) sent after-error)
-        (error-is ∙ ap limited onError-is ∙ sending-accepted (errorOutcome (losses .removed) (losses .emptied)) sent after-error (omega (arith, ap length rest-error, few)))
+        deliver-accepted h zero e (flown rows packets′) answer (length sent + length more) (sending (errorOutcome (losses .removed) (losses .emptied)) sent cut-away)
+        (does ∙ sending-accepted (errorOutcome (losses .removed) (losses .emptied)) sent cut-away (omega (arith, ap length rest-error, few)))
         (done-error rows packets′ answer t f outcome)
 
   -- Only Down has a second sender.

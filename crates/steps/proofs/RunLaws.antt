@@ -21,6 +21,7 @@ use Rattle.network.specs.declared.Packet.{Packet}
 use Rattle.network.specs.declared.Memory.{Memory}
 use Rattle.network.specs.View.{recordOf, labelOf, view}
 use Rattle.network.proofs.ViewLaws.{Labels}
+use Rattle.network.proofs.Bounds.{ValidMemory, memory-lengths}
 use Rattle.network.proofs.Ranged.{Ranged, in-range-ranged}
 use Rattle.steps.specs.declared.Happened.{Happened}
 use Rattle.steps.specs.Happens.{happened, Happens}
@@ -52,6 +53,16 @@ pub record Shape (m : Memory) (packets : List Packet) : Type 0 where
   pub sought-length : length (m .sought) ≡ 16
   pub active-length : length (m .active) ≡ 16
   pub packets-length : length packets ≡ airLimit
+
+pub memory-shape : (m : Memory) → ValidMemory m → Shape m (m .air .packets)
+memory-shape m valid = let long = memory-lengths m valid in record {
+  labels = record { s-length = long .s-length; m-length = long .m-length; d-length = long .d-length };
+  rows-length = long .rows-length;
+  records-length = long .records-length;
+  sought-length = long .sought-length;
+  active-length = long .active-length;
+  packets-length = long .air-length;
+}
 
 module _ {m : Memory} {packets : List Packet} (count : ℕ) (w : Shape m packets) where
   pub shape-sized : Sized (view (airing m packets count))
