@@ -4,3 +4,4 @@ pub mod MadeLaws
 pub mod ScriptResults
 pub mod ShowLaws
 pub mod ShownLaws
+pub mod PreviewLaws

@@ -2,4 +2,5 @@ pub mod Packed
 pub mod Console
 pub mod Contracts
 pub mod Showing
+pub mod Previewing
 pub mod Made

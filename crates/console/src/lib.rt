@@ -3,6 +3,7 @@
 ghost use mathlib.Core.Path.{_≡_};
 ghost use Prim.Native.Nat.{_≤_};
 ghost use lib.ListN.{length};
+ghost use Rattle.base.specs.Results.{isRefusal};
 ghost use Rattle.layout.specs.Places.{layoutLength};
 ghost use Rattle.console.specs.Packed.{packed};
 ghost use Rattle.console.specs.Console.{notMemory};
@@ -17,6 +18,7 @@ use steps::Done;
 
 pub mod calls;
 pub mod labels;
+pub mod previewing;
 pub mod scripts;
 pub mod showing;
 
@@ -47,6 +49,13 @@ fn out_of_range(bytes: &[u8]) -> bool
     !in_range(read(bytes))
 }
 
+// Whether an answer is a refusal.
+fn refused(answer: u32) -> bool
+    ensures { λ r. ⌜ r ≡ isRefusal answer ⌝ }
+{
+    (0 < answer) & (answer < 100)
+}
+
 // What a call gave, written into the bytes where it was accepted.
 fn finish(bytes: &mut [u8], done: Done) -> u64
     requires { ⌜ layoutLength ≤ length (now bytes) ⌝ }
@@ -54,7 +63,7 @@ fn finish(bytes: &mut [u8], done: Done) -> u64
 {
     let answer = done.answer;
     let sent = done.sent;
-    if (0 < answer) & (answer < 100) {
+    if refused(answer) {
         return packed(answer, sent as u32);
     }
     let memory = done.memory;

@@ -1,0 +1,65 @@
+-- How a preview at the console ends.
+use Prim.Native.Nat.{ℕ, _≤_, _<_}
+use mathlib.Core.Path.{_≡_, refl, sym, ap, _∙_}
+use mathlib.Core.Bool.{true, false}
+use mathlib.Core.List.{List, _++_}
+use lib.ListN.{length, length-append}
+use lib.Seq.{sets}
+use native.Mathlib.Omega.{arith}
+use borrow.Author.Tests.{lt-ltb, le-ltb}
+use Rattle.base.specs.Results.{Result, refused, accepted, mapped, _andThen_, isRefusal}
+use Rattle.base.proofs.Results.{refuse-holds, refuse-passes}
+use Rattle.codec.specs.Bytes.{littleEndian, putInto}
+use Rattle.codec.proofs.ByteLaws.{sets-over, little-length}
+use Rattle.label.specs.declared.Label.{Label}
+use Rattle.model.specs.Memory.{Row}
+use Rattle.model.specs.Preview.{Preview, previewing, preview}
+use Rattle.model.proofs.PreviewLaws.{preview-tells}
+use Rattle.layout.specs.Stored.{storedNetwork}
+use Rattle.layout.specs.Written.{labelBytes, rowBytes}
+use Rattle.layout.proofs.EntryLaws.{label-wide, row-wide}
+use Rattle.console.specs.Packed.{packed}
+use Rattle.console.specs.Console.{notMemory}
+use Rattle.console.specs.Previewing.{previewBytes, bytesOf, roomFor, previewingIn, tellingPreview, Previews}
+
+preview-wide : (l : Label) (r : Row) (mask : ℕ) → length (previewBytes l r mask) ≡ 87
+unfolding previewBytes
+preview-wide l r mask =
+    omega (arith, length-append (labelBytes l) (rowBytes r ++ littleEndian 2 mask), length-append (rowBytes r) (littleEndian 2 mask), label-wide l, row-wide r, little-length 2 mask)
+
+module _ (bytes : List ℕ) (k : ℕ) (out : List ℕ) where
+  ends-refused : (number : ℕ) → previewingIn bytes k (length out) ≡ refused number → Previews bytes k out (packed number 0) out
+  unfolding Previews tellingPreview mapped putInto
+  ends-refused number e = rw e (refl, refl)
+
+  pub preview-1 : notMemory bytes ≡ true → Previews bytes k out 1 out
+  unfolding previewingIn
+  preview-1 h = ends-refused 1 (refuse-holds 1 _ _ h)
+
+  -- The bytes are memory, and this is what the preview shows.
+  module _ (h : notMemory bytes ≡ false) {v : Preview} (is : v ≡ preview (storedNetwork bytes) k) where
+    past : previewingIn bytes k (length out) ≡ previewing (storedNetwork bytes) k andThen roomFor (length out)
+    unfolding previewingIn
+    past = refuse-passes 1 _ _ h
+
+    pub preview-refused : isRefusal (v .answer) ≡ true → Previews bytes k out (packed (v .answer) 0) out
+    unfolding _andThen_
+    preview-refused r = ends-refused (v .answer) (past ∙ rw (preview-tells (storedNetwork bytes) k .0 (ap (λ (x : Preview). isRefusal (x .answer)) (sym is) ∙ r), is))
+
+    shown : isRefusal (v .answer) ≡ false → previewingIn bytes k (length out) ≡ roomFor (length out) v
+    unfolding _andThen_
+    shown r = past ∙ rw (preview-tells (storedNetwork bytes) k .1 (ap (λ (x : Preview). isRefusal (x .answer)) (sym is) ∙ r), is)
+
+    wide : length (bytesOf v) ≡ 87
+    wide = preview-wide (v .label) (v .row) (v .mask)
+
+    pub preview-12 : isRefusal (v .answer) ≡ false → length out < 87 → Previews bytes k out 12 out
+    unfolding roomFor
+    preview-12 r l = ends-refused 12 (shown r ∙ refuse-holds 12 _ _ (lt-ltb (length out) (length (bytesOf v)) (omega (arith, l, wide))))
+
+    pub preview-shown : isRefusal (v .answer) ≡ false → 87 ≤ length out → (r : ℕ) (out′ : List ℕ) → r ≡ packed (v .answer) (v .sent) → out′ ≡ sets out 0 (bytesOf v)
+        → Previews bytes k out r out′
+    unfolding Previews tellingPreview mapped putInto roomFor
+    preview-shown a l r out′ e f =
+        let room : length (bytesOf v) ≤ length out = omega (arith, l, wide) in
+        rw (shown a ∙ refuse-passes 12 _ _ (le-ltb (length out) (length (bytesOf v)) room)) (e, f ∙ sets-over out (bytesOf v) room)

@@ -1,0 +1,44 @@
+-- A preview at the console (02, F-1).
+use Prim.Native.Nat.{ℕ}
+use mathlib.Core.Path.{_≡_}
+use mathlib.Core.List.{List, _++_}
+use lib.ListN.{length}
+use lib.Dec.{ltb}
+use Rattle.base.specs.Results.{Result, refused, accepted, refuse_when_otherwise_, mapped, _andThen_}
+use Rattle.codec.specs.Bytes.{littleEndian, putInto}
+use Rattle.label.specs.declared.Label.{Label}
+use Rattle.model.specs.Memory.{Row}
+use Rattle.model.specs.Preview.{Preview, previewing}
+use Rattle.layout.specs.Stored.{storedNetwork}
+use Rattle.layout.specs.Written.{labelBytes, rowBytes}
+use Rattle.console.specs.Packed.{packed}
+use Rattle.console.specs.Console.{notMemory}
+
+-- The label (16 bytes), the row (69) and the mask (2), as the layout has them.
+unfoldable pub previewBytes : Label → Row → (mask : ℕ) → List ℕ
+previewBytes label row mask = labelBytes label ++ (rowBytes row ++ littleEndian 2 mask)
+
+abbrev pub bytesOf : Preview → List ℕ
+bytesOf v = previewBytes (v .label) (v .row) (v .mask)
+
+-- A preview of packet k of the network that stands in the bytes, for an array of so many places: 12 where they are too few, tested last.
+unfoldable pub roomFor : (room : ℕ) → Preview → Result Preview
+roomFor room v =
+    refuse 12 when ltb room (length (bytesOf v)) otherwise
+    accepted v
+
+unfoldable pub previewingIn : List ℕ → (k room : ℕ) → Result Preview
+previewingIn bytes k room =
+    refuse 1 when notMemory bytes otherwise
+    (previewing (storedNetwork bytes) k andThen roomFor room)
+
+-- What is told of it: the outcome and the packets sent, as of a Deliver.
+unfoldable pub tellingPreview : Result Preview → ℕ
+tellingPreview (refused number) = packed number 0
+tellingPreview (accepted v) = packed (v .answer) (v .sent)
+
+-- A preview told r and left the lent array so: as it was where the preview is turned down, else what it shows and then the array's own bytes.
+unfoldable pub Previews : (bytes : List ℕ) (k : ℕ) (out : List ℕ) (r : ℕ) (out′ : List ℕ) → Type 0
+Previews bytes k out r out′ =
+    let result = previewingIn bytes k (length out) in
+    (r ≡ tellingPreview result) × (out′ ≡ putInto (mapped bytesOf result) out)

@@ -1,0 +1,51 @@
+// A preview of a packet of the network that stands in the bytes.
+ghost use mathlib.Core.Path.{_≡_};
+ghost use Prim.Native.Nat.{_≤_};
+ghost use lib.ListN.{length};
+ghost use lib.Seq.{sets};
+ghost use Rattle.rows.specs.View.{rowOf};
+ghost use Rattle.console.specs.Previewing.{previewBytes, Previews};
+use crate::not_memory;
+use crate::packed;
+use crate::refused;
+use codec::put_number;
+use label::Label;
+use layout::entries::put_label;
+use layout::entries::put_row;
+use layout::memory::read;
+use rows::Row;
+use sandbox::calls;
+
+// A label, a row and a mask.
+fn put_preview(out: &mut [u8], label: Label, row: Row, mask: u16)
+    requires { ⌜ 87 ≤ length (now out) ⌝ }
+    ensures { λ _. ⌜ now (out .exit) ≡ sets (now (out .entry)) 0 (previewBytes label (rowOf row) mask) ⌝ }
+{
+    put_label(out, 0, label);
+    put_row(out, 16, row);
+    put_number(out, 85, 2, mask as u64);
+}
+
+// What Deliver of packet k would give. The memory is only read.
+#[no_mangle]
+pub extern "C" fn srp_preview(memory: &[u8], k: usize, out: &mut [u8]) -> u64
+    ensures { λ r. ⌜ Previews (now (memory .entry)) k (now (out .entry)) r (now (out .exit)) ⌝ }
+{
+    if not_memory(memory) {
+        return 1;
+    }
+    let seen = calls::preview(read(memory), k);
+    let answer = seen.answer;
+    let sent = seen.sent as u32;
+    if refused(answer) {
+        return packed(answer, 0);
+    }
+    if out.len() < 87 {
+        return 12;
+    }
+    let label = seen.label;
+    let row = seen.row;
+    let mask = seen.mask;
+    put_preview(out, label, row, mask);
+    packed(answer, sent)
+}
