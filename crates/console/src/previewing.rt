@@ -14,7 +14,7 @@ use layout::entries::put_label;
 use layout::entries::put_row;
 use layout::memory::read;
 use rows::Row;
-use sandbox::calls;
+use sandbox::previews::preview;
 
 // A label, a row and a mask.
 fn put_preview(out: &mut [u8], label: Label, row: Row, mask: u16)
@@ -34,7 +34,7 @@ pub extern "C" fn srp_preview(memory: &[u8], k: usize, out: &mut [u8]) -> u64
     if not_memory(memory) {
         return 1;
     }
-    let seen = calls::preview(read(memory), k);
+    let seen = preview(read(memory), k);
     let answer = seen.answer;
     let sent = seen.sent as u32;
     if refused(answer) {

@@ -1,3 +1,4 @@
 pub mod MadeLaws
 pub mod NarrowLaws
 pub mod RunLaws
+pub mod ShownLaws

@@ -1,2 +1,3 @@
 pub mod Made
 pub mod Telling
+pub mod Shown

@@ -2,35 +2,20 @@
 ghost use mathlib.Core.Path.{_≡_};
 ghost use mathlib.Core.Logic.{_≢_};
 ghost use mathlib.Core.Bool.{false};
-ghost use Prim.Native.Nat.{min};
 ghost use Rattle.model.specs.Calls.{Open, Up, Down, Solicit, GiveUp, Expire, Deliver, Lose, Duplicate, step, traced, trace};
 ghost use Rattle.model.specs.Events.{notEvent, callOf};
-ghost use Rattle.model.specs.Preview.{preview};
 ghost use Rattle.model.specs.Walks.{Reached};
 ghost use Rattle.network.specs.View.{view};
 ghost use Rattle.steps.specs.Called.{Called};
-ghost use Rattle.preview.specs.Shown.{previewOf};
 ghost use Rattle.sandbox.specs.Made.{MadeMemory, WalksEndIn};
+use crate::narrow;
 use network::Memory;
 use network::opening::fresh;
 use network::range::in_range;
-use preview::Preview;
-use preview::preview_in_range;
-use preview::turned_down;
 use steps::Done;
 use steps::Traced;
 use steps::single::event_in_range;
 use validation::open_refused;
-
-// A station or a place in the air that fits a byte: no network in range has a 255th.
-fn narrow(a: usize) -> u8
-    ensures { λ r. ⌜ r ≡ min a 255 ⌝ }
-{
-    if a < 255 {
-        return a as u8;
-    }
-    255
-}
 
 // The call of a kind, 1 to 8. An operand that it does not use is 0.
 fn call(memory: Memory, kind: u8, a: usize, b: usize) -> Done
@@ -110,16 +95,6 @@ pub fn deliver(memory: Memory, k: usize) -> Done
     ensures { λ r. ⌜ Called memory (step (Deliver k) (view memory)) r ⌝ }
 {
     call(memory, 6, k, 0)
-}
-
-// A preview of packet k: what Deliver would give. The result holds no memory.
-pub fn preview(memory: Memory, k: usize) -> Preview
-    ensures { λ r. ⌜ previewOf r ≡ preview (view memory) k ⌝ }
-{
-    if !in_range(memory) {
-        return turned_down(1);
-    }
-    preview_in_range(memory, narrow(k))
 }
 
 // Lose: packet k is removed.

@@ -7,7 +7,7 @@ use Rattle.base.specs.Results.{isRefusal}
 use Rattle.model.specs.Preview.{preview}
 use Rattle.network.specs.View.{view}
 use Rattle.layout.specs.Stored.{storedNetwork}
-use Rattle.preview.specs.Shown.{previewOf}
+use Rattle.sandbox.specs.Shown.{previewOf}
 use Rattle.console.specs.Console.{notMemory}
 use Rattle.console.proofs.ConsoleLaws.{memory-long}
 use Rattle.console.proofs.PreviewLaws.{preview-1, preview-refused, preview-12, preview-shown}

@@ -1,4 +1,4 @@
--- `preview_in_range` meets its contract: turned down, an error, or a request or a reply.
+-- `previews::preview` meets its contract: turned down, an error, or a request or a reply.
 use Prim.Native.Nat.{ℕ, _+_, _-_, _%_, _≤_, _<_}
 use mathlib.Core.Path.{_≡_, refl, sym, ap, subst, _∙_}
 use mathlib.Core.Logic.{_≢_}
@@ -6,14 +6,19 @@ use mathlib.Core.List.{List, map}
 use lib.ListN.{length, getD}
 use native.Mathlib.Omega.{arith}
 use borrow.Author.Needs.{needs}
+use Rattle.base.proofs.Booleans.{not-was-true, not-was-false}
 use Rattle.model.specs.Memory.{zeroLabel, rowIn, rowLimit, setAir}
 use Rattle.model.specs.Calls.{errors}
+use Rattle.model.specs.Preview.{preview}
+use Rattle.model.proofs.PreviewLaws.{preview-out-of-range}
+use Rattle.model.proofs.Narrowing.{preview-narrowed}
 use Rattle.rows.specs.declared.Row.{Row}
 use Rattle.rows.specs.View.{zeroRow, rowOf}
 use Rattle.network.specs.declared.Packet.{Packet}
 use Rattle.network.specs.declared.Memory.{Memory}
 use Rattle.network.specs.View.{zeroPacket, labelOf, view}
 use Rattle.network.proofs.ViewLaws.{row-at}
+use Rattle.network.proofs.Bounds.{sized}
 use Rattle.network.proofs.Ranged.{Ranged, Carried}
 use Rattle.station.proofs.Laws.{sent-few}
 use Rattle.steps.proofs.RunLaws.{memory-shape}
@@ -21,45 +26,57 @@ use Rattle.steps.proofs.ArmLaws.{known}
 use Rattle.steps.proofs.DeliverLaws.{arrives, carried, flying}
 use Rattle.steps.proofs.ChangeLaws.{Looks, unused, arrived}
 use Rattle.steps.proofs.CutLaws.{Lost, lost-none, lost-below, lost-more}
-use Rattle.preview.proofs.ShownLaws.{Looked, looked, refused-shown, error-shown, changes, reaction-shown}
-use Rattle.preview.proofs.preview_in_range.Statement.{statement}
-use Rattle.preview.proofs.preview_in_range.Tie as tie
+use Rattle.sandbox.proofs.ShownLaws.{Looked, looked, refused-shown, error-shown, changes, reaction-shown}
+use Rattle.sandbox.proofs.previews.preview.Statement.{statement}
+use Rattle.sandbox.proofs.previews.preview.Tie as tie
 
 -- The rows looked at so far.
 abbrev Inv-loop : tie.InvT-loop
-Inv-loop k memory n count at number left links carried cut first second losses₀ u₀ losses u = (u ≤ n) × Lost cut (map rowOf (memory .rows)) u losses
+Inv-loop k memory n count a at number left links carried cut first second losses₀ u₀ losses u = (u ≤ n) × Lost cut (map rowOf (memory .rows)) u losses
 
 abbrev μ-loop : tie.MeasureT-loop
-μ-loop k memory n count at number left links carried cut first second losses₀ u₀ losses u = n - u
+μ-loop k memory n count a at number left links carried cut first second losses₀ u₀ losses u = n - u
 
 -- A place of the function, with this invariant and measure.
 abbrev Of : (tie.InvT-loop → tie.MeasureT-loop → Type 0) → Type 0
 Of p = p Inv-loop μ-loop
 
-abbrev begin : Of tie.After-refusal → Of tie.Start
-begin c = c .before .before .before
+abbrev readable : Of tie.After-refusal → Of tie.Else1
+readable c = c .before .before .before .before
 
-abbrev passed : Of tie.Else1 → Of tie.Start
+abbrev begin : Of tie.After-refusal → Of tie.Start
+begin c = readable c .before .before
+
+abbrev passed : Of tie.Else2 → Of tie.Start
 passed c = begin (c .before)
 
+-- k in a byte.
+abbrev place-of : Of tie.After-refusal → ℕ
+place-of c = c .before .before .narrow .result
+
+same : (c : Of tie.After-refusal) → preview (view (begin c .args .t1)) (c .before .before .narrow .result) ≡ preview (view (begin c .args .t1)) (begin c .args .k)
+same c =
+    let m = begin c .args .t1 in
+    ap (preview (view m)) (c .before .before .narrow .ensures) ∙ preview-narrowed (view m) (sized m (begin c .good .0)) (begin c .args .k) 0
+
 -- The tests, and the packet where they pass.
-tested : (c : Of tie.After-refusal) → Looked (begin c .args .t1) (begin c .args .k) (c .refusal .result)
-tested c = looked (begin c .args .t1) (memory-shape (begin c .args .t1) (begin c .good .0)) (begin c .pre) (c .refusal .ensures)
+tested : (c : Of tie.After-refusal) → Looked (begin c .args .t1) (place-of c) (c .refusal .result)
+tested c = looked (begin c .args .t1) (memory-shape (begin c .args .t1) (begin c .good .0)) (not-was-true _ _ (readable c .before .in-range .ensures) (readable c .if1 .left)) (c .refusal .ensures)
 
 ranged : (c : Of tie.After-refusal) → Ranged (begin c .args .t1)
 ranged c = known (tested c)
 
 abbrev packet : Of tie.After-refusal → Packet
-packet c = getD (begin c .args .t1 .air .packets) (begin c .args .k % 128) zeroPacket
+packet c = getD (begin c .args .t1 .air .packets) (place-of c % 128) zeroPacket
 
-there : (c : Of tie.Else1) → 0 < passed c .args .t1 .air .count
-there c = let w = arrives (tested (c .before)) (c .if1 .left) refl in omega (arith, w)
+there : (c : Of tie.Else2) → 0 < passed c .args .t1 .air .count
+there c = let w = arrives (tested (c .before)) (c .if2 .left) refl in omega (arith, w)
 
-lands : (c : Of tie.Else1) → Carried (passed c .args .t1 .n) (packet (c .before))
-lands c = carried (tested (c .before)) (c .if1 .left) refl
+lands : (c : Of tie.Else2) → Carried (passed c .args .t1 .n) (packet (c .before))
+lands c = carried (tested (c .before)) (c .if2 .left) refl
 
 -- An error: whose rows are cut, and what they hold.
-abbrev arm : Of tie.After-cut-of → Of tie.Else1
+abbrev arm : Of tie.After-cut-of → Of tie.Else2
 arm c = c .before .before .before
 
 ends : (c : Of tie.After-cut-of) → let n = passed (arm c) .args .t1 .n in (n ≤ 16) × (c .cut-of .result .first < n) × (c .cut-of .result .second < n)
@@ -97,7 +114,7 @@ module _ (c : Of tie.After-copies) where
   abbrev over : Of tie.At-loop
   over = c .before .before .before .before .before
 
-  abbrev error-arm : Of tie.Else1
+  abbrev error-arm : Of tie.Else2
   error-arm = arm (over .before)
 
   lost : Lost (over .before .cut-of .result) (map rowOf (passed error-arm .args .t1 .rows)) (passed error-arm .args .t1 .n) (over .loop .losses)
@@ -105,10 +122,10 @@ module _ (c : Of tie.After-copies) where
       let last : over .loop .u ≡ passed error-arm .args .t1 .n = omega (arith, over .loop .inv .0, c .before .before .before .before .loop-test) in
       subst (λ (u : ℕ). Lost (over .before .cut-of .result) (map rowOf (passed error-arm .args .t1 .rows)) u (over .loop .losses)) last (over .loop .inv .1)
 
-  sent-is : c .copies .result ≡ length (errors (flying (tested (error-arm .before)) (error-arm .if1 .left) refl) (packet (error-arm .before) .receiver) (over .loop .losses .emptied))
+  sent-is : c .copies .result ≡ length (errors (flying (tested (error-arm .before)) (error-arm .if2 .left) refl) (packet (error-arm .before) .receiver) (over .loop .losses .emptied))
   unfolding view setAir
   sent-is =
-      let away = flying (tested (error-arm .before)) (error-arm .if1 .left) refl in
+      let away = flying (tested (error-arm .before)) (error-arm .if2 .left) refl in
       let cut = over .before .cut-of .ensures .1 refl in
       c .copies .ensures
       ∙ ap length (c .before .before .error-scope .ensures away (over .before .cut-of .result .first) (c .before .error .result) (c .before .error .ensures))
@@ -118,11 +135,11 @@ module _ (c : Of tie.After-copies) where
   few = let k = ranged (error-arm .before) in (k .air-count, rw (c .copies .ensures) (sent-few _ _ _ _ _ (k .high)))
 
 -- A request or a reply: where its receiver is looked for.
-abbrev other-arm : Of tie.After-spot-of → Of tie.Else1
+abbrev other-arm : Of tie.After-spot-of → Of tie.Else2
 other-arm c = c .before .before .before
 
 no-error : (c : Of tie.After-spot-of) → packet (other-arm c .before) .kind ≢ 3
-no-error c = c .before .if2 .left
+no-error c = c .before .if3 .left
 
 inside : (c : Of tie.After-spot-of) → (c .spot-of .result .station < 16) × (c .spot-of .result .destination < 16) × (c .spot-of .result .source < 16)
 inside c = c .spot-of .ensures .1 .1
@@ -137,13 +154,13 @@ abbrev spotted : Of tie.After-label-of2 → Of tie.After-spot-of
 spotted c = placed c .before .before
 
 looks : (c : Of tie.After-label-of2) → let m = passed (other-arm (spotted c)) .args .t1 in
-    Looks m (m .air .packets) (m .air .count) 6 (passed (other-arm (spotted c)) .args .k) 0 (other-arm (spotted c) .before .refusal .result) (spotted c .spot-of .result) (placed c .before .place3 .result) (placed c .place4 .result) (c .label-of2 .result)
+    Looks m (m .air .packets) (m .air .count) 6 (place-of (other-arm (spotted c) .before)) 0 (other-arm (spotted c) .before .refusal .result) (spotted c .spot-of .result) (placed c .before .place3 .result) (placed c .place4 .result) (c .label-of2 .result)
 unfolding labelOf
 looks c =
     let class = changes (no-error (spotted c)) in
     record {
       tested = tested (other-arm (spotted c) .before);
-      zero-is = other-arm (spotted c) .if1 .left;
+      zero-is = other-arm (spotted c) .if2 .left;
       call-spot = spotted c .spot-of .ensures .0;
       packet-spot = spotted c .spot-of .ensures .1 .0;
       other-0 = λ e. omega (arith, class, e);
@@ -160,6 +177,18 @@ changed c = c .before .before .before .before .before
 few-sent : (c : Of tie.After-copies2) → (passed (other-arm (spotted (changed c .before))) .args .t1 .air .count ≤ 128) × (c .copies2 .result ≤ 16)
 few-sent c = let k = ranged (other-arm (spotted (changed c .before)) .before) in (k .air-count, rw (c .copies2 .ensures) (sent-few _ _ _ _ _ (k .high)))
 
+in-range-requires : Of tie.Need-in-range-requires
+in-range-requires c κs = search needs
+
+turned-down-requires : Of tie.Need-turned-down-requires
+turned-down-requires c κs = search needs
+
+returns : Of tie.Need-returns
+returns c = c .turned-down .ensures ∙ sym (preview-out-of-range _ _ (not-was-false _ _ (c .before .before .in-range .ensures) (c .before .if1 .taken)))
+
+narrow-requires : Of tie.Need-narrow-requires
+narrow-requires c κs = search needs
+
 cast-at : Of tie.Need-cast-at
 cast-at c = search needs
 
@@ -172,11 +201,11 @@ element-copy-out-p c = search needs
 refusal-requires : Of tie.Need-refusal-requires
 refusal-requires c κs = search needs
 
-turned-down-requires : Of tie.Need-turned-down-requires
-turned-down-requires c κs = search needs
+turned-down-requires-2 : Of tie.Need-turned-down-requires-2
+turned-down-requires-2 c κs = search needs
 
-returns : Of tie.Need-returns
-returns c = c .turned-down .ensures ∙ sym (refused-shown (tested (c .before .before)) (c .before .if1 .taken))
+returns-2 : Of tie.Need-returns-2
+returns-2 c = c .turned-down2 .ensures ∙ sym (refused-shown (tested (c .before .before)) (c .before .if2 .taken)) ∙ same (c .before .before)
 
 sub-left : Of tie.Need-sub-left
 sub-left c = omega (arith, there c)
@@ -243,14 +272,15 @@ empty-row-requires c κs = search needs
 shown-requires : Of tie.Need-shown-requires
 shown-requires c κs = omega (arith, few (c .before .before))
 
-returns-2 : Of tie.Need-returns-2
+returns-3 : Of tie.Need-returns-3
 unfolding zeroLabel
-returns-2 c =
+returns-3 c =
     let sent = c .before .before .before in
     let past = error-arm sent in
     c .shown .ensures
-    ∙ error-shown (tested (past .before)) (past .if1 .left) (over sent .before .before .if2 .taken) (over sent .before .cut-of .ensures .1 refl) (lost sent) (c .before .before .label-of .ensures) (c .before .empty-row .ensures)
+    ∙ error-shown (tested (past .before)) (past .if2 .left) (over sent .before .before .if3 .taken) (over sent .before .cut-of .ensures .1 refl) (lost sent) (c .before .before .label-of .ensures) (c .before .empty-row .ensures)
     (sent .before .before .before .cut-answer .ensures) (sent-is sent)
+    ∙ same (past .before)
 
 spot-of-requires : Of tie.Need-spot-of-requires
 spot-of-requires c κs = search needs
@@ -318,23 +348,29 @@ copies-requires-2 c κs = let past = spotted (c .before .before .before .before 
 shown-requires-2 : Of tie.Need-shown-requires-2
 shown-requires-2 c κs = omega (arith, few-sent c)
 
-returns-3 : Of tie.Need-returns-3
-returns-3 c =
+returns-4 : Of tie.Need-returns-4
+returns-4 c =
     let change = changed (c .before) in
-    c .shown2 .ensures ∙ rw (c .before .copies2 .ensures) (sym (reaction-shown (looks (change .before)) (no-error (spotted (change .before))) (change .change-of .ensures .1 .0 refl)))
+    c .shown2 .ensures
+    ∙ reaction-shown (looks (change .before)) (no-error (spotted (change .before))) (change .change-of .ensures .1 .0 refl) (c .before .copies2 .ensures)
+    ∙ same (other-arm (spotted (change .before)) .before)
 
-pub preview-in-range-spec : {M : Type 1} → statement M
-preview-in-range-spec =
+pub preview-spec : {M : Type 1} → statement M
+preview-spec =
     tie.close
     (tie.spec
     Inv-loop
     μ-loop
+    in-range-requires
+    turned-down-requires
+    returns
+    narrow-requires
     cast-at
     mul-p
     element-copy-out-p
     refusal-requires
-    turned-down-requires
-    returns
+    turned-down-requires-2
+    returns-2
     sub-left
     cut-of-requires
     loop-holds
@@ -355,7 +391,7 @@ preview-in-range-spec =
     label-of-requires
     empty-row-requires
     shown-requires
-    returns-2
+    returns-3
     spot-of-requires
     cast-own
     place-requires-3
@@ -378,4 +414,4 @@ preview-in-range-spec =
     change-of-requires
     copies-requires-2
     shown-requires-2
-    returns-3)
+    returns-4)

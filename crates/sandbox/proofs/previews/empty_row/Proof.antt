@@ -1,10 +1,10 @@
--- `empty_row` meets its contract.
+-- `previews::empty_row` meets its contract.
 use mathlib.Core.Path.{refl}
 use borrow.Author.Needs.{needs}
 use Rattle.base.specs.Lists.{tabulate}
 use Rattle.rows.specs.View.{rowOf}
-use Rattle.preview.proofs.empty_row.Statement.{statement}
-use Rattle.preview.proofs.empty_row.Tie as tie
+use Rattle.sandbox.proofs.previews.empty_row.Statement.{statement}
+use Rattle.sandbox.proofs.previews.empty_row.Tie as tie
 
 label-of-requires : tie.Need-label-of-requires
 label-of-requires c κs = search needs

@@ -1,10 +1,10 @@
--- `shown` meets its contract: 7, or what it was given.
+-- `previews::shown` meets its contract: 7, or what it was given.
 use mathlib.Core.Path.{sym, _∙_}
 use borrow.Author.Needs.{needs}
 use Rattle.base.proofs.Booleans.{was-true, was-false}
-use Rattle.preview.specs.Shown.{unlessFull}
-use Rattle.preview.proofs.shown.Statement.{statement}
-use Rattle.preview.proofs.shown.Tie as tie
+use Rattle.sandbox.specs.Shown.{unlessFull}
+use Rattle.sandbox.proofs.previews.shown.Statement.{statement}
+use Rattle.sandbox.proofs.previews.shown.Tie as tie
 
 full-requires : tie.Need-full-requires
 full-requires c κs = search needs

@@ -40,7 +40,7 @@ use Rattle.steps.proofs.ArmLaws.{Tested, known}
 use Rattle.steps.proofs.DeliverLaws.{arrives, carried, rest-length, flying, reaction-does, gone-is, bereft, error-does}
 use Rattle.steps.proofs.ChangeLaws.{Looks, receiver}
 use Rattle.steps.proofs.CutLaws.{Lost}
-use Rattle.preview.specs.Shown.{unlessFull}
+use Rattle.sandbox.specs.Shown.{unlessFull}
 
 -- Packet k of the memory, past the tests but that for 7, which gave r.
 abbrev pub Looked : Memory → (k r : ℕ) → Type 0
@@ -142,9 +142,9 @@ module _ {memory : Memory} {k r : ℕ} {w : Spot} {cell slot : ℕ} {l : Label} 
     abbrev replies : List model.Packet
     replies = sentBy (c .scope) (memory .links) (memory .n) (w .station) (c .packet)
 
-    pub reaction-shown : preview (view memory) k ≡ unlessFull (memory .air .count - 1 + length replies) (shows (c .answer) (length replies) (c .holding .label) (rowOf (c .holding .row)) 0)
+    reaction-is : preview (view memory) k ≡ unlessFull (memory .air .count - 1 + length replies) (shows (c .answer) (length replies) (c .holding .label) (rowOf (c .holding .row)) 0)
     unfolding reacts holding holdingShown sending send setAir setLabels setRows setRecords setActives view
-    reaction-shown =
+    reaction-is =
         let s = receiver g refl q in
         let head = carried (g .tested) (g .zero-is) refl in
         let sizes = shape-sized (memory .air .count) (g .tested .shape) in
@@ -159,3 +159,8 @@ module _ {memory : Memory} {k r : ℕ} {w : Spot} {cell slot : ℕ} {l : Label} 
           getD-set-same (view memory .rows) (place (arriving .receiver) (arriving .destination)) (rowOf (c .holding .row)) [] (omega (arith, here, sizes .rows-length)),
           s .0,
         )
+
+    -- With the number that the code found.
+    pub reaction-shown : {number : ℕ} → number ≡ length replies
+        → unlessFull (memory .air .count - 1 + number) (shows (c .answer) number (c .holding .label) (rowOf (c .holding .row)) 0) ≡ preview (view memory) k
+    reaction-shown e = rw e (sym reaction-is)

@@ -1,13 +1,13 @@
 // A preview of a packet (02, F-1): what Deliver would give, by the decisions of Deliver on the values that it gathers. Nothing is written.
 ghost use mathlib.Core.Path.{_≡_};
-ghost use mathlib.Core.Bool.{true};
 ghost use mathlib.Core.List.{[]};
 ghost use Prim.Native.Nat.{_+_, _^_, _<_};
-ghost use Rattle.model.specs.Memory.{memoryInRange};
 ghost use Rattle.model.specs.Preview.{shows, numberShown, preview};
 ghost use Rattle.rows.specs.View.{rowOf};
 ghost use Rattle.network.specs.View.{view};
-ghost use Rattle.preview.specs.Shown.{previewOf, unlessFull};
+ghost use Rattle.sandbox.specs.Shown.{previewOf, unlessFull};
+use crate::Preview;
+use crate::narrow;
 use decisions::changing::change_of;
 use decisions::changing::spot_of;
 use decisions::cutting::Losses;
@@ -23,21 +23,12 @@ use network::Memory;
 use network::RequestNumber;
 use network::packets::error;
 use network::places::place;
+use network::range::in_range;
 use rows::ROW_LIMIT;
 use rows::Row;
 use station::Holding;
 use station::sending::copies;
 use station::sending::error_scope;
-
-// What a delivery would give: its answer, how many packets it sends, the label and row that the receiver then has for the packet's
-// destination; of an error instead the mask of the rows that it empties.
-pub struct Preview {
-    pub label: Label,
-    pub row: Row,
-    pub answer: u32,
-    pub mask: u16,
-    pub sent: u8,
-}
 
 // A row of no successors.
 fn empty_row() -> Row
@@ -54,7 +45,7 @@ fn empty_row() -> Row
 }
 
 // A number, and nothing else.
-pub fn turned_down(number: u32) -> Preview
+fn turned_down(number: u32) -> Preview
     ensures { λ r. ⌜ previewOf r ≡ numberShown number ⌝ }
 {
     let label = label_of(0, 0, 0);
@@ -85,18 +76,21 @@ fn shown(label: Label, row: Row, mask: u16, answer: u32, left: u8, sent: u8) -> 
     }
 }
 
-// A preview of packet k, on memory in range.
-pub fn preview_in_range(memory: Memory, k: u8) -> Preview
-    requires { ⌜ memoryInRange (view memory) ≡ true ⌝ }
+// A preview of packet k. The result holds no memory.
+pub fn preview(memory: Memory, k: usize) -> Preview
     ensures { λ r. ⌜ previewOf r ≡ preview (view memory) k ⌝ }
 {
+    if !in_range(memory) {
+        return turned_down(1);
+    }
     let n = memory.n;
     let air = memory.air;
     let count = air.count;
-    let at = (k % AIR_LIMIT) as usize;
+    let a = narrow(k);
+    let at = (a % AIR_LIMIT) as usize;
     let p = air.packets[at];
     let none = RequestNumber(0);
-    let number = refusal(6, k, 0, n, count, false, false, none);
+    let number = refusal(6, a, 0, n, count, false, false, none);
     if number != 0 {
         return turned_down(number);
     }
@@ -104,7 +98,7 @@ pub fn preview_in_range(memory: Memory, k: u8) -> Preview
     let links = memory.links;
     let carried = p.kind;
     if carried == 3 {
-        let cut = cut_of(6, k, 0, p);
+        let cut = cut_of(6, a, 0, p);
         let first = cut.first;
         let second = cut.second;
         let mut losses = Losses {
@@ -127,7 +121,7 @@ pub fn preview_in_range(memory: Memory, k: u8) -> Preview
         let sent = copies(scope, links, n, first, error(mask));
         return shown(label_of(0, 0, 0), empty_row(), mask, answer, left, sent);
     }
-    let spot = spot_of(6, k, 0, p);
+    let spot = spot_of(6, a, 0, p);
     let station = spot.station;
     let t = spot.destination;
     let own = station as usize;
