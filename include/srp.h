@@ -134,6 +134,7 @@ enum srp_event_kind {
 #define SRP_RECORD_BYTES 23
 #define SRP_PACKET_BYTES 28
 #define SRP_STATION_BYTES 6
+#define SRP_PREVIEW_BYTES 87
 
 /* A label: where its fields stand from its first byte on. */
 #define SRP_LABEL_S 0 /* 8 bytes */
@@ -170,6 +171,11 @@ enum srp_event_kind {
 #define SRP_STATION_NUMBER 0 /* the last request number, 4 bytes */
 #define SRP_STATION_SOUGHT 4 /* the destination last sought */
 #define SRP_STATION_ACTIVE 5 /* 1 if active, else 0 */
+
+/* What srp_preview shows. */
+#define SRP_PREVIEW_LABEL 0 /* a label */
+#define SRP_PREVIEW_ROW 16  /* a row */
+#define SRP_PREVIEW_MASK 85 /* 2 bytes, weight 2^t for destination t */
 
 /* Where the part of station i, of station i for station t, and of packet k stands. */
 #define SRP_PLACE(i, t) (SRP_MAX_STATIONS * (size_t)(i) + (size_t)(t))
@@ -238,6 +244,18 @@ uint64_t srp_expire(uint8_t *memory, size_t length, size_t a, size_t t);
  * packets sent.
  */
 uint64_t srp_deliver(uint8_t *memory, size_t length, size_t k);
+
+/*
+ * Preview: what srp_deliver of packet k would do, before it lands. Memory is only read. Refused, answer and
+ * count: as of srp_deliver, and then 12 where out is shorter than SRP_PREVIEW_BYTES. Turned down, out is as it
+ * was. Else the first SRP_PREVIEW_BYTES of out hold three parts, and the bytes past them are kept:
+ *   SRP_PREVIEW_LABEL, SRP_PREVIEW_ROW: after a request or a reply (101 to 115) the label and the row that its
+ *     receiver would then have for the packet's destination, shown as srp_label and srp_row show them; where
+ *     the receiver is the destination, its own label and its empty row. Zeros after an error.
+ *   SRP_PREVIEW_MASK: after an error (121 to 123) the mask of the destinations for which its receiver's row
+ *     would be emptied, 0 for 121 and 122; 2 bytes, weight 2^t for destination t. 0 after a request or a reply.
+ */
+uint64_t srp_preview(const uint8_t *memory, size_t length, size_t k, uint8_t *out, size_t out_length);
 
 /* Lose: packet k leaves the air. Refused: 1 (memory), 6. Answer 0, count 0. */
 uint64_t srp_lose(uint8_t *memory, size_t length, size_t k);
