@@ -310,7 +310,7 @@ set-takeOut masked leaves i j t rows r h ht (suc c) hc =
     go false = refl
 
 -- Where no destination is masked nothing is taken out.
-never : (t : ℕ) → bit 0 t ≡ false
+pub never : (t : ℕ) → bit 0 t ≡ false
 unfolding bit
 never t = rw (zero-div (2 ^ t))
 

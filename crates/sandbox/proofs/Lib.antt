@@ -2,3 +2,4 @@ pub mod MadeLaws
 pub mod NarrowLaws
 pub mod RunLaws
 pub mod ShownLaws
+pub mod GatherLaws

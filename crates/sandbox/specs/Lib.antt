@@ -1,3 +1,4 @@
 pub mod Made
 pub mod Telling
 pub mod Shown
+pub mod Gathered

@@ -5,7 +5,9 @@ ghost use Prim.Native.Nat.{_+_, _^_, _<_};
 ghost use Rattle.model.specs.Preview.{shows, numberShown, preview};
 ghost use Rattle.rows.specs.View.{rowOf};
 ghost use Rattle.network.specs.View.{view};
+ghost use Rattle.network.specs.declared.Memory.{Memory};
 ghost use Rattle.sandbox.specs.Shown.{previewOf, unlessFull};
+ghost use Rattle.sandbox.specs.Gathered.{gatheredOf, InRange};
 use crate::Preview;
 use crate::narrow;
 use decisions::changing::change_of;
@@ -20,6 +22,7 @@ use label::Label;
 use label::label_of;
 use network::AIR_LIMIT;
 use network::Memory;
+use network::Packet;
 use network::RequestNumber;
 use network::packets::error;
 use network::places::place;
@@ -76,56 +79,32 @@ fn shown(label: Label, row: Row, mask: u16, answer: u32, left: u8, sent: u8) -> 
     }
 }
 
-// A preview of packet k. The result holds no memory.
-pub fn preview(memory: Memory, k: usize) -> Preview
-    ensures { λ r. ⌜ previewOf r ≡ preview (view memory) k ⌝ }
+// What a preview reads of a network: packet k, what its receiver holds for it, the receiver's last request and its rows, the links, and
+// how many stations and packets there are.
+pub struct Gathered {
+    pub rows: [Row; 16],
+    pub held: Holding,
+    pub packet: Packet,
+    pub links: [bool; 256],
+    pub last: RequestNumber,
+    pub sought: u8,
+    pub n: u8,
+    pub count: u8,
+}
+
+// These of the memory.
+fn gather(memory: Memory, k: u8) -> Gathered
+    ensures { λ r. ⌜ r ≡ gatheredOf memory k ⌝ }
 {
-    if !in_range(memory) {
-        return turned_down(1);
-    }
     let n = memory.n;
     let air = memory.air;
-    let count = air.count;
-    let a = narrow(k);
-    let at = (a % AIR_LIMIT) as usize;
-    let p = air.packets[at];
-    let none = RequestNumber(0);
-    let number = refusal(6, a, 0, n, count, false, false, none);
-    if number != 0 {
-        return turned_down(number);
-    }
-    let left = count - 1;
     let links = memory.links;
-    let carried = p.kind;
-    if carried == 3 {
-        let cut = cut_of(6, a, 0, p);
-        let first = cut.first;
-        let second = cut.second;
-        let mut losses = Losses {
-            emptied: 0,
-            others: 0,
-            removed: false,
-        };
-        let mut u = 0;
-        while u < n {
-            let cell = place(first, u);
-            let slot = place(second, u);
-            let row = memory.rows[cell];
-            let other = memory.rows[slot];
-            losses = with_rows(losses, cut, u, row, other);
-            u += 1;
-        }
-        let mask = losses.emptied;
-        let answer = cut_answer(6, losses.removed, mask);
-        let scope = error_scope(mask);
-        let sent = copies(scope, links, n, first, error(mask));
-        return shown(label_of(0, 0, 0), empty_row(), mask, answer, left, sent);
-    }
-    let spot = spot_of(6, a, 0, p);
+    let at = (k % AIR_LIMIT) as usize;
+    let p = air.packets[at];
+    let spot = spot_of(6, k, 0, p);
     let station = spot.station;
-    let t = spot.destination;
     let own = station as usize;
-    let cell = place(station, t);
+    let cell = place(station, spot.destination);
     let slot = place(station, spot.source);
     let s = memory.s[cell];
     let m = memory.m[cell];
@@ -135,17 +114,89 @@ pub fn preview(memory: Memory, k: usize) -> Preview
     let active = memory.active[own];
     let last = memory.numbers[own];
     let sought = memory.sought[own];
+    let mut rows = [row; 16];
+    let mut u = 0;
+    while u < 16 {
+        let t = u as usize;
+        let from = place(station, u);
+        rows[t] = memory.rows[from];
+        u += 1;
+    }
     let held = Holding {
         label: label_of(s, m, d),
         row: row,
         kept: kept,
         active: active,
     };
+    Gathered {
+        rows: rows,
+        held: held,
+        packet: p,
+        links: links,
+        last: last,
+        sought: sought,
+        n: n,
+        count: air.count,
+    }
+}
+
+// A preview of packet k of a memory in range that this was gathered of.
+pub fn preview_of(seen: Gathered, k: u8) -> Preview
+    requires { ⌜ ((memory : Memory) × InRange memory × (seen ≡ gatheredOf memory k)) ⌝ }
+    ensures { λ r. ⌜ ((memory : Memory) → InRange memory → seen ≡ gatheredOf memory k → previewOf r ≡ preview (view memory) k) ⌝ }
+{
+    let n = seen.n;
+    let count = seen.count;
+    let p = seen.packet;
+    let none = RequestNumber(0);
+    let number = refusal(6, k, 0, n, count, false, false, none);
+    if number != 0 {
+        return turned_down(number);
+    }
+    let left = count - 1;
+    let links = seen.links;
+    let station = p.receiver;
+    let carried = p.kind;
+    if carried == 3 {
+        let cut = cut_of(6, k, 0, p);
+        let mut losses = Losses {
+            emptied: 0,
+            others: 0,
+            removed: false,
+        };
+        let mut u = 0;
+        while u < n {
+            let t = u as usize;
+            let row = seen.rows[t];
+            losses = with_rows(losses, cut, u, row, row);
+            u += 1;
+        }
+        let mask = losses.emptied;
+        let answer = cut_answer(6, losses.removed, mask);
+        let scope = error_scope(mask);
+        let sent = copies(scope, links, n, station, error(mask));
+        return shown(label_of(0, 0, 0), empty_row(), mask, answer, left, sent);
+    }
+    let held = seen.held;
+    let last = seen.last;
+    let sought = seen.sought;
+    let t = p.destination;
     let c = change_of(6, p, held, last, sought, links, station, t);
     let packet = c.packet;
     let holding = c.holding;
     let label = holding.label;
-    let successors = holding.row;
+    let row = holding.row;
     let sent = copies(c.scope, links, n, station, packet);
-    shown(label, successors, 0, c.answer, left, sent)
+    shown(label, row, 0, c.answer, left, sent)
+}
+
+// A preview of packet k. The result holds no memory.
+pub fn preview(memory: Memory, k: usize) -> Preview
+    ensures { λ r. ⌜ previewOf r ≡ preview (view memory) k ⌝ }
+{
+    if !in_range(memory) {
+        return turned_down(1);
+    }
+    let a = narrow(k);
+    preview_of(gather(memory, a), a)
 }

@@ -15,7 +15,7 @@ use Rattle.base.proofs.Lists.{map-set}
 use Rattle.model.specs.Memory as model
 use Rattle.model.specs.Memory.{Successor, place, rowIn, names, without}
 use Rattle.model.specs.Calls.{maskOf, bit, takeOut, removes, empties, emptied}
-use Rattle.model.proofs.Rows.{emptied-below, takeOut-other, takeOut-more, takeOut-none, set-takeOut}
+use Rattle.model.proofs.Rows.{never, emptied-below, takeOut-other, takeOut-more, takeOut-none, set-takeOut}
 use Rattle.rows.specs.declared.Row.{Row}
 use Rattle.rows.specs.View.{zeroRow, rowOf}
 use Rattle.network.proofs.ViewLaws.{row-at}
@@ -62,6 +62,16 @@ module _ {cut : Cut} {rows : List model.Row} where
       removed-is = rw add-one (g ∙ rw (k .removed-is, p, q) (or-pairs (removes (bit (cut .mask)) (names (cut .second)) (cut .first) t rows) (removes (bit (cut .others)) (names (cut .first)) (cut .second) t rows)
           (bit (cut .mask) t && someIn (names (cut .second)) (rowIn rows (cut .first) t)) (bit (cut .others) t && someIn (names (cut .first)) (rowIn rows (cut .second) t))));
     }
+
+    -- Where the second loses nothing, whatever stands for its row.
+    pub lost-alone : {next : Losses} {row : model.Row} (other : model.Row) → cut .others ≡ 0 → row ≡ rowIn rows (cut .first) t
+        → next .emptied ≡ losses .emptied + (if bit (cut .mask) t && empties (names (cut .second)) row then 2 ^ t else 0)
+        → next .others ≡ losses .others + (if bit (cut .others) t && empties (names (cut .first)) other then 2 ^ t else 0)
+        → next .removed ≡ losses .removed || bit (cut .mask) t && someIn (names (cut .second)) row || bit (cut .others) t && someIn (names (cut .first)) other
+        → Lost cut rows (t + 1) next
+    lost-alone other none p e f g =
+        let off : bit (cut .others) t ≡ false = ap (λ (x : ℕ). bit x t) none ∙ never t in
+        lost-more p refl e (rw off (rw off at f)) (rw off (rw off at g))
 
 -- The rows with those of both stations cut below u, and as they were from u on.
 pub record CutRows (cut : Cut) (before : List Row) (u : ℕ) (rows : List Row) : Type 0 where

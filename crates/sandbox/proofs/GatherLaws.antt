@@ -1,0 +1,179 @@
+-- What a preview gathers of the memory, and what it shows of it.
+use Prim.Native.Nat.{ℕ, _+_, _-_, _%_, _≤_, _<_}
+use mathlib.Core.Path.{_≡_, refl, sym, ap, subst, _∙_}
+use mathlib.Core.Logic.{_≢_}
+use mathlib.Core.Bool.{true, false}
+use mathlib.Core.List.{List, [], map}
+use lib.ListN.{length, getD}
+use native.Mathlib.Omega.{arith}
+use Rattle.base.specs.Lists.{tabulate}
+use Rattle.base.proofs.Loops.{tabulate-at}
+use Rattle.label.specs.declared.Label.{Label}
+use Rattle.model.specs.Memory as model
+use Rattle.model.specs.Memory.{Network, error, zeroLabel, place, rowIn, setAir, rowLimit}
+use Rattle.model.specs.Calls.{errors, errorOutcome}
+use Rattle.model.specs.Events.{eventOf}
+use Rattle.model.specs.Preview.{shows, numberShown, preview}
+use Rattle.rows.specs.declared.Row.{Row}
+use Rattle.rows.specs.View.{zeroRow, rowOf}
+use Rattle.network.specs.declared.Packet.{Packet}
+use Rattle.network.specs.declared.Memory.{Memory}
+use Rattle.network.specs.View.{zeroNumber, zeroRecord, zeroPacket, bodyOf, labelOf, view}
+use Rattle.network.proofs.ViewLaws.{row-at}
+use Rattle.network.proofs.Bounds.{ValidMemory, memory-lengths}
+use Rattle.network.proofs.Ranged.{Carried}
+use Rattle.station.specs.Reacting.{sentBy}
+use Rattle.station.specs.Replying.{Ready}
+use Rattle.decisions.specs.declared.cutting.Cut.{Cut}
+use Rattle.decisions.specs.declared.cutting.Losses.{Losses}
+use Rattle.decisions.specs.declared.changing.Spot.{Spot}
+use Rattle.decisions.specs.declared.changing.Change.{Change}
+use Rattle.decisions.specs.Refusing.{Seen, Tests}
+use Rattle.decisions.specs.Changing.{Reacts}
+use Rattle.steps.proofs.ArmLaws.{known}
+use Rattle.steps.proofs.DeliverLaws.{arrives, carried, flying}
+use Rattle.steps.proofs.ChangeLaws.{Looks, arrived}
+use Rattle.steps.proofs.CutLaws.{Lost}
+use Rattle.sandbox.specs.declared.previews.Gathered.{Gathered}
+use Rattle.sandbox.specs.Shown.{unlessFull}
+use Rattle.sandbox.specs.Gathered.{heldFor, gatheredOf, InRange}
+use Rattle.sandbox.proofs.ShownLaws.{Looked, looked, refused-shown, error-shown, changes, reaction-shown}
+
+-- Memory in range by value has tables of their lengths.
+pub value-in-range : (m : Memory) → ValidMemory m → model.memoryInRange (view m) ≡ true → InRange m
+value-in-range m valid ranged = let long = memory-lengths m valid in record {
+  ranged = ranged;
+  s-length = long .s-length;
+  m-length = long .m-length;
+  d-length = long .d-length;
+  rows-length = long .rows-length;
+  records-length = long .records-length;
+  sought-length = long .sought-length;
+  active-length = long .active-length;
+  packets-length = long .air-length;
+}
+
+-- What was gathered, part by part.
+module _ (m : Memory) (k : ℕ) where
+  pub gathered-is : {i cell slot : ℕ} {l : Label} {rows : List Row} → let p = getD (m .air .packets) (k % 128) zeroPacket in
+      i ≡ p .receiver % 16 → cell ≡ place i (p .destination % 16) → slot ≡ place i (p .source % 16) → l ≡ labelOf (m .s) (m .m) (m .d) cell
+      → rows ≡ tabulate 16 (λ u. getD (m .rows) (place i u) zeroRow)
+      → record {
+        rows = rows;
+        held = record { label = l; row = getD (m .rows) cell zeroRow; kept = getD (m .records) slot zeroRecord; active = getD (m .active) i false };
+        packet = p;
+        links = m .links;
+        last = getD (m .numbers) i zeroNumber;
+        sought = getD (m .sought) i 0;
+        n = m .n;
+        count = m .air .count;
+      } ≡ gatheredOf m k
+  gathered-is a b c d e = rw (d, e, b, c, a)
+
+-- The packet and the numbers, where no test but that for 7 turns its delivery down.
+pub record Lands (w : Gathered) : Type 0 where
+  pub few-stations : w .n ≤ 16
+  pub receiver-below : w .packet .receiver < w .n
+  pub sender-below : w .packet .sender < w .n
+  pub there : 0 < w .count
+  pub few-packets : w .count ≤ 128
+
+-- The tests gave r for what was gathered of this memory.
+module _ {m : Memory} {k r : ℕ} {w : Gathered} (s : InRange m) (e : w ≡ gatheredOf m k)
+    (tests : (net : Network) → Seen net 6 k 0 (w .n) (w .count) false false 0 → Tests net (eventOf 6 k 0) r) where
+  h : Looked m k r
+  h =
+      looked m
+      (record {
+        labels = record { s-length = s .s-length; m-length = s .m-length; d-length = s .d-length };
+        rows-length = s .rows-length;
+        records-length = s .records-length;
+        sought-length = s .sought-length;
+        active-length = s .active-length;
+        packets-length = s .packets-length;
+      })
+      (s .ranged)
+      (subst (λ (x : Gathered). (net : Network) → Seen net 6 k 0 (x .n) (x .count) false false 0 → Tests net (eventOf 6 k 0) r) e tests)
+
+  pub gathered-refused : r ≢ 0 → numberShown r ≡ preview (view m) k
+  gathered-refused q = sym (refused-shown h q)
+
+  module _ (zero : r ≡ 0) where
+    abbrev p : Packet
+    p = getD (m .air .packets) (k % 128) zeroPacket
+
+    packet-ok : Carried (m .n) p
+    packet-ok = carried h zero refl
+
+    pub lands : Lands w
+    lands =
+        let here = arrives h zero refl in
+        subst Lands (sym e) (record {
+          few-stations = known h .high;
+          receiver-below = packet-ok .receiver-below;
+          sender-below = packet-ok .sender-below;
+          there = omega (arith, here);
+          few-packets = known h .air-count;
+        })
+
+    same : p .receiver % 16 ≡ p .receiver
+    same = omega (arith, packet-ok .receiver-below, known h .high)
+
+    -- The receiver's rows: they are short, and the model's.
+    row-is : (u : ℕ) → u < m .n → getD (tabulate 16 (λ t. getD (m .rows) (place (p .receiver % 16) t) zeroRow)) u zeroRow ≡ getD (m .rows) (place (p .receiver) u) zeroRow
+    row-is u l = tabulate-at 16 (λ t. getD (m .rows) (place (p .receiver % 16) t) zeroRow) u zeroRow (omega (arith, l, known h .high)) ∙ ap (λ (i : ℕ). getD (m .rows) (place i u) zeroRow) same
+
+    abbrev RowsKnown : Gathered → Type 0
+    RowsKnown x = (u : ℕ) → u < x .n → (u < 16) × (getD (x .rows) u zeroRow .count ≤ rowLimit) × (rowOf (getD (x .rows) u zeroRow) ≡ rowIn (map rowOf (m .rows)) (x .packet .receiver) u)
+
+    pub rows-known : RowsKnown w
+    rows-known = subst RowsKnown (sym e) (λ u l. (
+      omega (arith, l, known h .high),
+      subst (λ (x : Row). x .count ≤ rowLimit) (sym (row-is u l)) (known h .row-count (p .receiver) u (packet-ok .receiver-below) l),
+      ap rowOf (row-is u l) ∙ sym (row-at (m .rows) (place (p .receiver) u)),
+    ))
+
+    -- An error: what is lost, what is sent, and what is shown.
+    abbrev ErrorShown : Gathered → Type 0
+    ErrorShown x = x .packet .kind ≡ 3 → (cut : Cut) (losses : Losses) → (cut .first ≡ x .packet .receiver) × (cut .second ≡ x .packet .sender) × (cut .mask ≡ x .packet .mask) × (cut .others ≡ 0)
+        → Lost cut (map rowOf (m .rows)) (x .n) losses → (l : Label) (row : model.Row) (answer number scope : ℕ) (q : Packet) → l ≡ zeroLabel → row ≡ [] → answer ≡ errorOutcome (losses .removed) (losses .emptied)
+        → ((net : Network) (a : ℕ) (y : Packet) → bodyOf y ≡ error (losses .emptied) → sentBy scope (net .links) (net .n) a y ≡ errors net a (losses .emptied))
+        → bodyOf q ≡ error (losses .emptied) → number ≡ length (sentBy scope (x .links) (x .n) (x .packet .receiver) q)
+        → unlessFull (x .count - 1 + number) (shows answer number l row (losses .emptied)) ≡ preview (view m) k
+
+    pub gathered-error : ErrorShown w
+    unfolding view setAir
+    gathered-error = subst ErrorShown (sym e) (λ is-error cut losses cuts lost l row answer number scope q a b c sends body count-is.
+        error-shown h zero is-error cuts lost a b c (count-is ∙ ap length (sends (flying h zero refl) (p .receiver) q body)))
+
+    -- A request or a reply: it is one of these, and what is shown.
+    abbrev spot : Spot
+    spot = record { station = p .receiver % 16; destination = p .destination % 16; source = p .source % 16 }
+
+    looks : p .kind ≢ 3 → Looks m (m .air .packets) (m .air .count) 6 k 0 r spot (place (p .receiver % 16) (p .destination % 16)) (place (p .receiver % 16) (p .source % 16)) (heldFor m p .label)
+    looks q =
+        let class = changes q in
+        record {
+          tested = h;
+          zero-is = zero;
+          call-spot = λ x. absurd (x refl);
+          packet-spot = λ x. (refl, refl, refl);
+          other-0 = λ x. omega (arith, class, x);
+          other-1 = λ x. omega (arith, class, x);
+          other-2 = λ x. omega (arith, class, x);
+          cell-is = refl;
+          slot-is = refl;
+          label-is = refl;
+        }
+
+    pub gathered-ready : w .packet .kind ≢ 3 → (0 < w .packet .kind) × (w .packet .kind < 3) × Ready (w .packet) (w .held)
+    gathered-ready = subst (λ (x : Gathered). x .packet .kind ≢ 3 → (0 < x .packet .kind) × (x .packet .kind < 3) × Ready (x .packet) (x .held)) (sym e) (λ q. arrived (looks q) refl)
+
+    abbrev ReactionShown : Gathered → Type 0
+    ReactionShown x = x .packet .kind ≢ 3 → (c : Change) → Reacts (x .packet) (x .held) (x .last) (x .sought) (x .links) c
+        → (number : ℕ) → number ≡ length (sentBy (c .scope) (x .links) (x .n) (x .packet .receiver) (c .packet))
+        → unlessFull (x .count - 1 + number) (shows (c .answer) number (c .holding .label) (rowOf (c .holding .row)) 0) ≡ preview (view m) k
+
+    pub gathered-reaction : ReactionShown w
+    gathered-reaction = subst ReactionShown (sym e) (λ q c re number count-is.
+        reaction-shown (looks q) q re (count-is ∙ ap (λ (i : ℕ). length (sentBy (c .scope) (m .links) (m .n) i (c .packet))) (sym same)))
