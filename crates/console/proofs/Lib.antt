@@ -4,4 +4,5 @@ pub mod MadeLaws
 pub mod ScriptResults
 pub mod ShowLaws
 pub mod ShownLaws
+pub mod GatherLaws
 pub mod PreviewLaws

@@ -19,8 +19,9 @@ use Rattle.layout.specs.Stored.{storedNetwork}
 use Rattle.layout.specs.Written.{labelBytes, rowBytes}
 use Rattle.layout.proofs.EntryLaws.{label-wide, row-wide}
 use Rattle.console.specs.Packed.{packed}
-use Rattle.console.specs.Console.{notMemory}
+use Rattle.console.specs.Showing.{outOfRange}
 use Rattle.console.specs.Previewing.{previewBytes, bytesOf, roomFor, previewingIn, tellingPreview, Previews}
+use Rattle.console.proofs.ShowLaws.{showing-1, showing-net}
 
 preview-wide : (l : Label) (r : Row) (mask : ℕ) → length (previewBytes l r mask) ≡ 87
 unfolding previewBytes
@@ -32,15 +33,15 @@ module _ (bytes : List ℕ) (k : ℕ) (out : List ℕ) where
   unfolding Previews tellingPreview mapped putInto
   ends-refused number e = rw e (refl, refl)
 
-  pub preview-1 : notMemory bytes ≡ true → Previews bytes k out 1 out
-  unfolding previewingIn
-  preview-1 h = ends-refused 1 (refuse-holds 1 _ _ h)
+  pub preview-1 : outOfRange bytes ≡ true → Previews bytes k out 1 out
+  unfolding previewingIn _andThen_
+  preview-1 h = ends-refused 1 (rw (showing-1 bytes (λ net. previewing net k) h))
 
-  -- The bytes are memory, and this is what the preview shows.
-  module _ (h : notMemory bytes ≡ false) {v : Preview} (is : v ≡ preview (storedNetwork bytes) k) where
+  -- The bytes are memory in range, and this is what the preview shows.
+  module _ (h : outOfRange bytes ≡ false) {v : Preview} (is : v ≡ preview (storedNetwork bytes) k) where
     past : previewingIn bytes k (length out) ≡ previewing (storedNetwork bytes) k andThen roomFor (length out)
     unfolding previewingIn
-    past = refuse-passes 1 _ _ h
+    past = rw (showing-net bytes (λ net. previewing net k) h)
 
     pub preview-refused : isRefusal (v .answer) ≡ true → Previews bytes k out (packed (v .answer) 0) out
     unfolding _andThen_

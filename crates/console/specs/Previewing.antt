@@ -9,10 +9,9 @@ use Rattle.codec.specs.Bytes.{littleEndian, putInto}
 use Rattle.label.specs.declared.Label.{Label}
 use Rattle.model.specs.Memory.{Row}
 use Rattle.model.specs.Preview.{Preview, previewing}
-use Rattle.layout.specs.Stored.{storedNetwork}
 use Rattle.layout.specs.Written.{labelBytes, rowBytes}
 use Rattle.console.specs.Packed.{packed}
-use Rattle.console.specs.Console.{notMemory}
+use Rattle.console.specs.Showing.{showing}
 
 -- The label (16 bytes), the row (69) and the mask (2), as the layout has them.
 unfoldable pub previewBytes : Label → Row → (mask : ℕ) → List ℕ
@@ -28,9 +27,7 @@ roomFor room v =
     accepted v
 
 unfoldable pub previewingIn : List ℕ → (k room : ℕ) → Result Preview
-previewingIn bytes k room =
-    refuse 1 when notMemory bytes otherwise
-    (previewing (storedNetwork bytes) k andThen roomFor room)
+previewingIn bytes k room = showing bytes (λ net. previewing net k) andThen roomFor room
 
 -- What is told of it: the outcome and the packets sent, as of a Deliver.
 unfoldable pub tellingPreview : Result Preview → ℕ

@@ -1,5 +1,5 @@
 -- What a preview gathers of the memory, and what it shows of it.
-use Prim.Native.Nat.{ℕ, _+_, _-_, _%_, _≤_, _<_}
+use Prim.Native.Nat.{ℕ, _+_, _-_, _%_, _≤_, _<_, min}
 use mathlib.Core.Path.{_≡_, refl, sym, ap, subst, _∙_}
 use mathlib.Core.Logic.{_≢_}
 use mathlib.Core.Bool.{true, false}
@@ -14,6 +14,7 @@ use Rattle.model.specs.Memory.{Network, error, zeroLabel, place, rowIn, setAir,
 use Rattle.model.specs.Calls.{errors, errorOutcome}
 use Rattle.model.specs.Events.{eventOf}
 use Rattle.model.specs.Preview.{shows, numberShown, preview}
+use Rattle.model.proofs.Narrowing.{preview-narrowed}
 use Rattle.rows.specs.declared.Row.{Row}
 use Rattle.rows.specs.View.{zeroRow, rowOf}
 use Rattle.network.specs.declared.Packet.{Packet}
@@ -30,6 +31,7 @@ use Rattle.decisions.specs.declared.changing.Spot.{Spot}
 use Rattle.decisions.specs.declared.changing.Change.{Change}
 use Rattle.decisions.specs.Refusing.{Seen, Tests}
 use Rattle.decisions.specs.Changing.{Reacts}
+use Rattle.steps.proofs.RunLaws.{Shape, shape-sized}
 use Rattle.steps.proofs.ArmLaws.{known}
 use Rattle.steps.proofs.DeliverLaws.{arrives, carried, flying}
 use Rattle.steps.proofs.ChangeLaws.{Looks, arrived}
@@ -52,6 +54,20 @@ value-in-range m valid ranged = let long = memory-lengths m valid in record {
   active-length = long .active-length;
   packets-length = long .air-length;
 }
+
+in-range-shape : {m : Memory} → InRange m → Shape m (m .air .packets)
+in-range-shape s = record {
+  labels = record { s-length = s .s-length; m-length = s .m-length; d-length = s .d-length };
+  rows-length = s .rows-length;
+  records-length = s .records-length;
+  sought-length = s .sought-length;
+  active-length = s .active-length;
+  packets-length = s .packets-length;
+}
+
+-- A number from 255 on is previewed as 255.
+pub narrow-shown : {m : Memory} → InRange m → (k : ℕ) {a : ℕ} → a ≡ min k 255 → preview (view m) a ≡ preview (view m) k
+narrow-shown {m} s k e = ap (preview (view m)) e ∙ preview-narrowed (view m) (shape-sized (m .air .count) (in-range-shape s)) k 0
 
 -- What was gathered, part by part.
 module _ (m : Memory) (k : ℕ) where
@@ -83,16 +99,7 @@ module _ {m : Memory} {k r : ℕ} {w : Gathered} (s : InRange m) (e : w ≡ gath
     (tests : (net : Network) → Seen net 6 k 0 (w .n) (w .count) false false 0 → Tests net (eventOf 6 k 0) r) where
   h : Looked m k r
   h =
-      looked m
-      (record {
-        labels = record { s-length = s .s-length; m-length = s .m-length; d-length = s .d-length };
-        rows-length = s .rows-length;
-        records-length = s .records-length;
-        sought-length = s .sought-length;
-        active-length = s .active-length;
-        packets-length = s .packets-length;
-      })
-      (s .ranged)
+      looked m (in-range-shape s) (s .ranged)
       (subst (λ (x : Gathered). (net : Network) → Seen net 6 k 0 (x .n) (x .count) false false 0 → Tests net (eventOf 6 k 0) r) e tests)
 
   pub gathered-refused : r ≢ 0 → numberShown r ≡ preview (view m) k

@@ -19,7 +19,7 @@ pub struct Preview {
 }
 
 // A station or a place in the air that fits a byte: no network in range has a 255th.
-fn narrow(a: usize) -> u8
+pub fn narrow(a: usize) -> u8
     ensures { λ r. ⌜ r ≡ min a 255 ⌝ }
 {
     if a < 255 {

@@ -1,45 +1,58 @@
 -- `previewing::srp_preview` meets its contract: refused with 1 or the preview's number, then with 12, or what the preview shows.
-use mathlib.Core.Path.{_≡_, ap, _∙_}
+use mathlib.Core.Path.{_≡_, _∙_}
 use mathlib.Core.Bool.{false}
 use borrow.Author.Needs.{needs}
 use Rattle.base.proofs.Booleans.{was-true, was-false}
 use Rattle.base.specs.Results.{isRefusal}
 use Rattle.model.specs.Preview.{preview}
-use Rattle.network.specs.View.{view}
-use Rattle.layout.specs.Stored.{storedNetwork}
+use Rattle.layout.specs.Stored.{storedMemory, storedNetwork}
 use Rattle.sandbox.specs.Shown.{previewOf}
-use Rattle.console.specs.Console.{notMemory}
-use Rattle.console.proofs.ConsoleLaws.{memory-long}
+use Rattle.sandbox.specs.Gathered.{InRange}
+use Rattle.sandbox.proofs.GatherLaws.{narrow-shown}
+use Rattle.console.specs.Showing.{outOfRange}
+use Rattle.console.proofs.ShowLaws.{known}
+use Rattle.console.proofs.GatherLaws.{stored-in-range}
 use Rattle.console.proofs.PreviewLaws.{preview-1, preview-refused, preview-12, preview-shown}
 use Rattle.console.proofs.previewing.srp_preview.Statement.{statement}
 use Rattle.console.proofs.previewing.srp_preview.Tie as tie
 
--- Past the first test the bytes are memory, and the preview is that of what they hold.
-readable : (c : tie.Else1) → notMemory (c .before .before .before .before .args .memory .now) ≡ false
-readable c = was-false _ _ (c .before .not-memory .ensures) (c .if1 .left)
+-- Past the first test the bytes are memory in range, and the preview is that of what they hold.
+readable : (c : tie.Else1) → outOfRange (c .before .before .before .before .args .memory .now) ≡ false
+readable c = was-false _ _ (c .before .out-of-range .ensures) (c .if1 .left)
 
-abbrev start : tie.After-preview → tie.Start
-start c = c .before .before .before .before .before .before
+abbrev past : tie.After-preview-of → tie.Else1
+past c = c .before .before .before
 
-seen : (c : tie.After-preview) → previewOf (c .preview .result) ≡ preview (storedNetwork (start c .args .memory .now)) (start c .args .k)
+abbrev start : tie.After-preview-of → tie.Start
+start c = past c .before .before .before .before
+
+ranged : (c : tie.After-preview-of) → InRange (storedMemory (start c .args .memory .now))
+ranged c = stored-in-range (start c .args .memory .now) (readable (past c))
+
+seen : (c : tie.After-preview-of) → previewOf (c .preview-of .result) ≡ preview (storedNetwork (start c .args .memory .now)) (start c .args .k)
 unfolding storedNetwork
-seen c = c .preview .ensures ∙ ap (λ m. preview (view m) (start c .args .k)) (c .before .read .ensures)
+seen c = c .preview-of .ensures (storedMemory (start c .args .memory .now)) (ranged c) (c .before .gather .ensures) ∙ narrow-shown (ranged c) _ (c .before .before .narrow .ensures)
 
 -- Past the second it is not turned down.
-accepted : (c : tie.Else2) → isRefusal (c .before .before .before .preview .result .answer) ≡ false
+accepted : (c : tie.Else2) → isRefusal (c .before .before .before .preview-of .result .answer) ≡ false
 accepted c = was-false _ _ (c .before .refused .ensures) (c .if2 .left)
 
-not-memory-requires : tie.Need-not-memory-requires
-not-memory-requires c κs = search needs
+out-of-range-requires : tie.Need-out-of-range-requires
+out-of-range-requires c κs = search needs
 
 returns : tie.Need-returns
-returns c = preview-1 _ _ _ (was-true _ _ (c .before .not-memory .ensures) (c .if1 .taken))
+returns c = preview-1 _ _ _ (was-true _ _ (c .before .out-of-range .ensures) (c .if1 .taken))
 
-read-requires : tie.Need-read-requires
-read-requires c κs = memory-long _ (readable c)
+narrow-requires : tie.Need-narrow-requires
+narrow-requires c κs = search needs
 
-preview-requires : tie.Need-preview-requires
-preview-requires c κs = search needs
+gather-requires : tie.Need-gather-requires
+gather-requires c κs = known _ (readable (c .before)) .long
+
+preview-of-requires : tie.Need-preview-of-requires
+preview-of-requires c κs =
+    let bytes = c .before .before .before .before .before .before .args .memory .now in
+    (storedMemory bytes, stored-in-range bytes (readable (c .before .before)), c .gather .ensures)
 
 cast-sent : tie.Need-cast-sent
 cast-sent c = search needs
@@ -53,13 +66,13 @@ packed-requires c κs = search needs
 returns-2 : tie.Need-returns-2
 returns-2 c =
     let told = c .before .before .before .before in
-    let number = preview-refused _ _ _ (readable (told .before .before)) (seen told) (was-true _ _ (c .before .before .refused .ensures) (c .before .if2 .taken)) in
+    let number = preview-refused _ _ _ (readable (past told)) (seen told) (was-true _ _ (c .before .before .refused .ensures) (c .before .if2 .taken)) in
     rw (c .packed .ensures) number
 
 returns-3 : tie.Need-returns-3
 returns-3 c =
     let told = c .before .before .before .before in
-    preview-12 _ _ _ (readable (told .before .before)) (seen told) (accepted (c .before)) (c .if3 .taken)
+    preview-12 _ _ _ (readable (past told)) (seen told) (accepted (c .before)) (c .if3 .taken)
 
 put-preview-requires : tie.Need-put-preview-requires
 put-preview-requires c κs = search needs
@@ -74,16 +87,17 @@ returns-4 : tie.Need-returns-4
 returns-4 c =
     let room = c .before .before .before .before .before .before .before in
     let told = room .before .before .before .before in
-    preview-shown _ _ _ (readable (told .before .before)) (seen told) (accepted (room .before)) (room .if3 .left) _ _ (c .packed2 .ensures) (c .before .before .before .put-preview .ensures)
+    preview-shown _ _ _ (readable (past told)) (seen told) (accepted (room .before)) (room .if3 .left) _ _ (c .packed2 .ensures) (c .before .before .before .put-preview .ensures)
 
 pub srp-preview-spec : {M : Type 1} → statement M
 srp-preview-spec =
     tie.close
     (tie.spec
-    not-memory-requires
+    out-of-range-requires
     returns
-    read-requires
-    preview-requires
+    narrow-requires
+    gather-requires
+    preview-of-requires
     cast-sent
     refused-requires
     packed-requires

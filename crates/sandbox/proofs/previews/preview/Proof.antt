@@ -1,14 +1,10 @@
 -- `previews::preview` meets its contract: refused with 1, or the preview of a narrowed number.
-use mathlib.Core.Path.{_≡_, sym, ap, _∙_}
+use mathlib.Core.Path.{sym, _∙_}
 use borrow.Author.Needs.{needs}
 use Rattle.base.proofs.Booleans.{not-was-true, not-was-false}
-use Rattle.model.specs.Preview.{preview}
 use Rattle.model.proofs.PreviewLaws.{preview-out-of-range}
-use Rattle.model.proofs.Narrowing.{preview-narrowed}
-use Rattle.network.specs.View.{view}
-use Rattle.network.proofs.Bounds.{sized}
 use Rattle.sandbox.specs.Gathered.{InRange}
-use Rattle.sandbox.proofs.GatherLaws.{value-in-range}
+use Rattle.sandbox.proofs.GatherLaws.{value-in-range, narrow-shown}
 use Rattle.sandbox.proofs.previews.preview.Statement.{statement}
 use Rattle.sandbox.proofs.previews.preview.Tie as tie
 
@@ -40,9 +36,7 @@ returns-2 : tie.Need-returns-2
 returns-2 c =
     let read = c .before in
     let m = start read .args .memory in
-    c .preview-of .ensures m (ranged read) (read .gather .ensures)
-    ∙ ap (preview (view m)) (read .before .narrow .ensures)
-    ∙ preview-narrowed (view m) (sized m (start read .good .0)) (start read .args .k) 0
+    c .preview-of .ensures m (ranged read) (read .gather .ensures) ∙ narrow-shown (ranged read) _ (read .before .narrow .ensures)
 
 pub preview-spec : {M : Type 1} → statement M
 preview-spec =
