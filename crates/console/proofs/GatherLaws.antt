@@ -1,9 +1,9 @@
 -- What a preview gathers of the memory that stands in the bytes.
 use Prim.Native.Nat.{ℕ, _+_, _*_, _%_, _<_}
-use mathlib.Core.Path.{_≡_, refl, sym, ap, _∙_}
-use mathlib.Core.Bool.{Bool, true, false, not}
+use mathlib.Core.Path.{_≡_, refl, sym, _∙_}
+use mathlib.Core.Bool.{Bool, false, not}
 use mathlib.Core.List.{List}
-use lib.ListN.{length, getD}
+use lib.ListN.{getD}
 use native.Mathlib.Omega.{arith}
 use Rattle.base.specs.Lists.{tabulate}
 use Rattle.base.proofs.Booleans.{neither, not-was-true}
@@ -16,7 +16,7 @@ use Rattle.rows.specs.declared.Row.{Row}
 use Rattle.rows.specs.View.{zeroRow}
 use Rattle.network.specs.declared.Record.{Record}
 use Rattle.network.specs.declared.Packet.{Packet}
-use Rattle.network.specs.View.{zeroNumber, zeroRecord, zeroPacket, labelOf, view}
+use Rattle.network.specs.View.{zeroNumber, zeroRecord, zeroPacket, view}
 use Rattle.layout.specs.Places.{numbersAt, soughtAt, activeAt, linksAt, labelsAt, rowsAt, recordsAt, airAt, packetsAt}
 use Rattle.layout.specs.Stored.{storedFlag, storedNumber, storedLabel, storedRow, storedRecord, storedPacket, storedAir, storedMemory, storedNetwork}
 use Rattle.layout.proofs.StoredLaws.{label-of-stored, sought-stored, active-stored}
@@ -30,14 +30,16 @@ module _ (bytes : List ℕ) where
   unfolding outOfRange storedNetwork storedMemory storedAir tableAt
   stored-in-range h = record {
     ranged = not-was-true _ _ refl (neither (notMemory bytes) (not (memoryInRange (storedNetwork bytes))) h .1);
-    s-length = tabulate-length 256 _;
-    m-length = tabulate-length 256 _;
-    d-length = tabulate-length 256 _;
-    rows-length = tabulate-length 256 _;
-    records-length = tabulate-length 256 _;
-    sought-length = tabulate-length 16 _;
-    active-length = tabulate-length 16 _;
-    packets-length = tabulate-length 128 _;
+    lengths = record {
+      s-length = tabulate-length 256 _;
+      m-length = tabulate-length 256 _;
+      d-length = tabulate-length 256 _;
+      rows-length = tabulate-length 256 _;
+      records-length = tabulate-length 256 _;
+      sought-length = tabulate-length 16 _;
+      active-length = tabulate-length 16 _;
+      air-length = tabulate-length 128 _;
+    };
   }
 
   -- Entries of the tables, where they stand.

@@ -7,7 +7,7 @@ use lib.ListN.{length, length-append}
 use lib.Seq.{sets}
 use native.Mathlib.Omega.{arith}
 use borrow.Author.Tests.{lt-ltb, le-ltb}
-use Rattle.base.specs.Results.{Result, refused, accepted, mapped, _andThen_, isRefusal}
+use Rattle.base.specs.Results.{refused, mapped, _andThen_, isRefusal}
 use Rattle.base.proofs.Results.{refuse-holds, refuse-passes}
 use Rattle.codec.specs.Bytes.{littleEndian, putInto}
 use Rattle.codec.proofs.ByteLaws.{sets-over, little-length}

@@ -17,7 +17,7 @@ use Rattle.rows.specs.View.{rowOf}
 use Rattle.network.specs.declared.Packet.{Packet}
 use Rattle.network.specs.declared.Air.{Air}
 use Rattle.network.specs.declared.Memory.{Memory}
-use Rattle.network.specs.View.{recordOf, labelOf, view}
+use Rattle.network.specs.View.{recordOf, labelOf, view, Lengths}
 use Rattle.label.proofs.Label as label
 use Rattle.network.proofs.Packet as packet
 use Rattle.network.proofs.Packet.Laws as packet′
@@ -68,17 +68,7 @@ array-length l valid = valid .1 .0 .1
 pub packets-length : (a : Air) → ValidAir a → length (a .packets) ≡ airLimit
 packets-length a valid = unmapped _ (a .packets) airLimit (valid .1 .1 .0 .1 .0 .1)
 
-pub record MemoryLengths (m : Memory) : Type 0 where
-  pub s-length : length (m .s) ≡ 256
-  pub m-length : length (m .m) ≡ 256
-  pub d-length : length (m .d) ≡ 256
-  pub rows-length : length (m .rows) ≡ 256
-  pub records-length : length (m .records) ≡ 256
-  pub sought-length : length (m .sought) ≡ 16
-  pub active-length : length (m .active) ≡ 16
-  pub air-length : length (m .air .packets) ≡ airLimit
-
-pub memory-lengths : (m : Memory) → ValidMemory m → MemoryLengths m
+pub memory-lengths : (m : Memory) → ValidMemory m → Lengths m
 memory-lengths m valid = record {
   s-length = unmapped _ (m .s) 256 (valid .1 .1 .0 .1 .0 .1);
   m-length = unmapped _ (m .m) 256 (valid .1 .1 .1 .0 .1 .0 .1);

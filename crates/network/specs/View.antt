@@ -3,9 +3,10 @@
 -- model's tables have it, and no test asks for it. A count over its limit is read as a list that long, and a kind other than 1 to 3 as the
 -- body `other`, so that memory out of range is read as a network out of range.
 use Prim.Native.Nat.{ℕ}
+use mathlib.Core.Path.{_≡_}
 use mathlib.Core.Bool.{false}
 use mathlib.Core.List.{List, map}
-use lib.ListN.{getD}
+use lib.ListN.{length, getD}
 use lib.Dec.{eqb}
 use Rattle.base.specs.Choice.{if_then_else_}
 use Rattle.base.specs.Lists.{tabulate}
@@ -73,3 +74,14 @@ view memory = record {
   active = memory .active;
   air = airOf (memory .air);
 }
+
+-- The tables have their lengths.
+pub record Lengths (m : Memory) : Type 0 where
+  pub s-length : length (m .s) ≡ 256
+  pub m-length : length (m .m) ≡ 256
+  pub d-length : length (m .d) ≡ 256
+  pub rows-length : length (m .rows) ≡ 256
+  pub records-length : length (m .records) ≡ 256
+  pub sought-length : length (m .sought) ≡ 16
+  pub active-length : length (m .active) ≡ 16
+  pub air-length : length (m .air .packets) ≡ model.airLimit

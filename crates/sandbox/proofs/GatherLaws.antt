@@ -2,7 +2,7 @@
 use Prim.Native.Nat.{ℕ, _+_, _-_, _%_, _≤_, _<_, min}
 use mathlib.Core.Path.{_≡_, refl, sym, ap, subst, _∙_}
 use mathlib.Core.Logic.{_≢_}
-use mathlib.Core.Bool.{true, false}
+use mathlib.Core.Bool.{false}
 use mathlib.Core.List.{List, [], map}
 use lib.ListN.{length, getD}
 use native.Mathlib.Omega.{arith}
@@ -21,7 +21,6 @@ use Rattle.network.specs.declared.Packet.{Packet}
 use Rattle.network.specs.declared.Memory.{Memory}
 use Rattle.network.specs.View.{zeroNumber, zeroRecord, zeroPacket, bodyOf, labelOf, view}
 use Rattle.network.proofs.ViewLaws.{row-at}
-use Rattle.network.proofs.Bounds.{ValidMemory, memory-lengths}
 use Rattle.network.proofs.Ranged.{Carried}
 use Rattle.station.specs.Reacting.{sentBy}
 use Rattle.station.specs.Replying.{Ready}
@@ -31,7 +30,7 @@ use Rattle.decisions.specs.declared.changing.Spot.{Spot}
 use Rattle.decisions.specs.declared.changing.Change.{Change}
 use Rattle.decisions.specs.Refusing.{Seen, Tests}
 use Rattle.decisions.specs.Changing.{Reacts}
-use Rattle.steps.proofs.RunLaws.{Shape, shape-sized}
+use Rattle.steps.proofs.RunLaws.{lengths-shape, shape-sized}
 use Rattle.steps.proofs.ArmLaws.{known}
 use Rattle.steps.proofs.DeliverLaws.{arrives, carried, flying}
 use Rattle.steps.proofs.ChangeLaws.{Looks, arrived}
@@ -41,33 +40,9 @@ use Rattle.sandbox.specs.Shown.{unlessFull}
 use Rattle.sandbox.specs.Gathered.{heldFor, gatheredOf, InRange}
 use Rattle.sandbox.proofs.ShownLaws.{Looked, looked, refused-shown, error-shown, changes, reaction-shown}
 
--- Memory in range by value has tables of their lengths.
-pub value-in-range : (m : Memory) → ValidMemory m → model.memoryInRange (view m) ≡ true → InRange m
-value-in-range m valid ranged = let long = memory-lengths m valid in record {
-  ranged = ranged;
-  s-length = long .s-length;
-  m-length = long .m-length;
-  d-length = long .d-length;
-  rows-length = long .rows-length;
-  records-length = long .records-length;
-  sought-length = long .sought-length;
-  active-length = long .active-length;
-  packets-length = long .air-length;
-}
-
-in-range-shape : {m : Memory} → InRange m → Shape m (m .air .packets)
-in-range-shape s = record {
-  labels = record { s-length = s .s-length; m-length = s .m-length; d-length = s .d-length };
-  rows-length = s .rows-length;
-  records-length = s .records-length;
-  sought-length = s .sought-length;
-  active-length = s .active-length;
-  packets-length = s .packets-length;
-}
-
 -- A number from 255 on is previewed as 255.
 pub narrow-shown : {m : Memory} → InRange m → (k : ℕ) {a : ℕ} → a ≡ min k 255 → preview (view m) a ≡ preview (view m) k
-narrow-shown {m} s k e = ap (preview (view m)) e ∙ preview-narrowed (view m) (shape-sized (m .air .count) (in-range-shape s)) k 0
+narrow-shown {m} s k e = ap (preview (view m)) e ∙ preview-narrowed (view m) (shape-sized (m .air .count) (lengths-shape (s .lengths))) k 0
 
 -- What was gathered, part by part.
 module _ (m : Memory) (k : ℕ) where
@@ -99,7 +74,7 @@ module _ {m : Memory} {k r : ℕ} {w : Gathered} (s : InRange m) (e : w ≡ gath
     (tests : (net : Network) → Seen net 6 k 0 (w .n) (w .count) false false 0 → Tests net (eventOf 6 k 0) r) where
   h : Looked m k r
   h =
-      looked m (in-range-shape s) (s .ranged)
+      looked m (lengths-shape (s .lengths)) (s .ranged)
       (subst (λ (x : Gathered). (net : Network) → Seen net 6 k 0 (x .n) (x .count) false false 0 → Tests net (eventOf 6 k 0) r) e tests)
 
   pub gathered-refused : r ≢ 0 → numberShown r ≡ preview (view m) k

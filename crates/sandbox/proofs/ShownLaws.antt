@@ -1,6 +1,6 @@
 -- What a preview shows, by what the packet's receiver does.
 use Prim.Native.Nat.{ℕ, _+_, _-_, _%_, _<_}
-use mathlib.Core.Path.{_≡_, refl, sym, ap, _∙_}
+use mathlib.Core.Path.{_≡_, refl, sym, _∙_}
 use mathlib.Core.Logic.{_≢_}
 use mathlib.Core.Bool.{Bool, true, false}
 use mathlib.Core.List.{List, [], map}
@@ -10,7 +10,6 @@ use lib.Seq.{getD-set-same}
 use native.Mathlib.Omega.{arith}
 use borrow.Author.Tests.{ltb-true, ltb-false, ne-eqb}
 use Rattle.base.specs.Choice.{if_then_else_}
-use Rattle.base.specs.Results.{refused}
 use Rattle.base.proofs.Booleans.{Trichotomy, less, equal, more, trichotomy}
 use Rattle.label.specs.declared.Label.{Label}
 use Rattle.model.specs.Memory as model
@@ -27,7 +26,6 @@ use Rattle.network.specs.declared.Memory.{Memory}
 use Rattle.network.specs.View.{zeroNumber, zeroRecord, zeroPacket, requestOf, replyOf, bodyOf, packetOf, view}
 use Rattle.network.proofs.ViewLaws.{body-request, body-reply, body-error}
 use Rattle.network.proofs.PacketLaws.{packets-count, packets-at}
-use Rattle.station.specs.declared.Holding.{Holding}
 use Rattle.station.specs.Reacting.{sentBy, holding, reacts}
 use Rattle.decisions.specs.declared.changing.Spot.{Spot}
 use Rattle.decisions.specs.declared.changing.Change.{Change}

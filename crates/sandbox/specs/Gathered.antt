@@ -2,13 +2,13 @@
 use Prim.Native.Nat.{ℕ, _%_}
 use mathlib.Core.Path.{_≡_}
 use mathlib.Core.Bool.{true, false}
-use lib.ListN.{length, getD}
+use lib.ListN.{getD}
 use Rattle.base.specs.Lists.{tabulate}
-use Rattle.model.specs.Memory.{place, airLimit, memoryInRange}
+use Rattle.model.specs.Memory.{place, memoryInRange}
 use Rattle.rows.specs.View.{zeroRow}
 use Rattle.network.specs.declared.Packet.{Packet}
 use Rattle.network.specs.declared.Memory.{Memory}
-use Rattle.network.specs.View.{zeroNumber, zeroRecord, zeroPacket, labelOf, view}
+use Rattle.network.specs.View.{zeroNumber, zeroRecord, zeroPacket, labelOf, view, Lengths}
 use Rattle.station.specs.declared.Holding.{Holding}
 use Rattle.sandbox.specs.declared.previews.Gathered.{Gathered}
 
@@ -43,11 +43,4 @@ gatheredOf m k =
 -- Memory in range, whose tables have their lengths.
 pub record InRange (m : Memory) : Type 0 where
   pub ranged : memoryInRange (view m) ≡ true
-  pub s-length : length (m .s) ≡ 256
-  pub m-length : length (m .m) ≡ 256
-  pub d-length : length (m .d) ≡ 256
-  pub rows-length : length (m .rows) ≡ 256
-  pub records-length : length (m .records) ≡ 256
-  pub sought-length : length (m .sought) ≡ 16
-  pub active-length : length (m .active) ≡ 16
-  pub packets-length : length (m .air .packets) ≡ airLimit
+  pub lengths : Lengths m

@@ -2,7 +2,7 @@
 use Prim.Native.Nat.{ℕ, zero, _+_, _-_, _%_, _≤_, _<_}
 use mathlib.Core.Path.{_≡_, sym, ap, subst, _∙_}
 use mathlib.Core.Logic.{_≢_, _⊎_, inl, inr}
-use mathlib.Core.Bool.{Bool, false, not, _&&_, or-false, and-false, and-true}
+use mathlib.Core.Bool.{Bool, false, not, _&&_, and-false, and-true}
 use mathlib.Core.List.{List, [], _++_, map, append-nil, append-assoc}
 use lib.ListN.{length, getD, set, length-append, length-map}
 use lib.Seq.{set-getD}
@@ -13,18 +13,17 @@ use Rattle.base.specs.Choice.{if_then_else_}
 use Rattle.base.specs.Lists.{removeAt}
 use Rattle.model.specs.Memory as model
 use Rattle.model.specs.Memory.{Network, error, pairPlace, names, setRows, setLinks, setAir, airLimit}
-use Rattle.model.specs.Calls.{Down, Deliver, effect, limited, send, sending, errors, receive, onError, errorOutcome, step}
-use Rattle.model.specs.Calls.{takeOut, removes, emptied, everyDestination, dropBetween, lost, parted, down, bit}
+use Rattle.model.specs.Calls.{Down, Deliver, effect, limited, send, sending, errors, errorOutcome, step}
+use Rattle.model.specs.Calls.{takeOut, emptied, everyDestination, dropBetween, lost, parted, down, bit}
 use Rattle.model.specs.Events.{calls, eventOf}
 use Rattle.model.proofs.Refusals.{pair-tells, down-limited, sending-7, sending-accepted}
 use Rattle.model.proofs.EventLaws.{call-2}
-use Rattle.model.proofs.Rows.{takeOut-length, takeOut-full, emptied-full, takeOut-never, emptied-never, removes-never}
+use Rattle.model.proofs.Rows.{takeOut-length, takeOut-full, emptied-full, takeOut-never}
 use Rattle.rows.specs.declared.Row.{Row}
 use Rattle.rows.specs.View.{rowOf}
 use Rattle.network.specs.declared.Packet.{Packet}
 use Rattle.network.specs.declared.Memory.{Memory}
 use Rattle.network.specs.View.{zeroPacket, bodyOf, packetsOf, view}
-use Rattle.network.proofs.ViewLaws.{body-error}
 use Rattle.network.proofs.Ranged.{Ranged}
 use Rattle.station.specs.Reacting.{sentBy}
 use Rattle.decisions.specs.declared.cutting.Cut.{Cut}

@@ -19,9 +19,8 @@ use Rattle.model.proofs.EventLaws.{after-more}
 use Rattle.rows.specs.View.{rowOf}
 use Rattle.network.specs.declared.Packet.{Packet}
 use Rattle.network.specs.declared.Memory.{Memory}
-use Rattle.network.specs.View.{recordOf, labelOf, view}
+use Rattle.network.specs.View.{recordOf, labelOf, view, Lengths}
 use Rattle.network.proofs.ViewLaws.{Labels}
-use Rattle.network.proofs.Bounds.{ValidMemory, memory-lengths}
 use Rattle.network.proofs.Ranged.{Ranged, in-range-ranged}
 use Rattle.steps.specs.declared.Happened.{Happened}
 use Rattle.steps.specs.Happens.{happened, Happens}
@@ -54,8 +53,8 @@ pub record Shape (m : Memory) (packets : List Packet) : Type 0 where
   pub active-length : length (m .active) ≡ 16
   pub packets-length : length packets ≡ airLimit
 
-pub memory-shape : (m : Memory) → ValidMemory m → Shape m (m .air .packets)
-memory-shape m valid = let long = memory-lengths m valid in record {
+pub lengths-shape : {m : Memory} → Lengths m → Shape m (m .air .packets)
+lengths-shape long = record {
   labels = record { s-length = long .s-length; m-length = long .m-length; d-length = long .d-length };
   rows-length = long .rows-length;
   records-length = long .records-length;

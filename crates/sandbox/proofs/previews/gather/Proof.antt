@@ -1,5 +1,5 @@
 -- `previews::gather` meets its contract: each part read at its place.
-use Prim.Native.Nat.{ℕ, _-_, _%_, _≤_, _<_}
+use Prim.Native.Nat.{ℕ, _-_, _≤_, _<_}
 use mathlib.Core.Path.{_≡_, refl, ap, _∙_}
 use lib.ListN.{getD}
 use native.Mathlib.Omega.{arith}

@@ -3,8 +3,9 @@ use mathlib.Core.Path.{sym, _∙_}
 use borrow.Author.Needs.{needs}
 use Rattle.base.proofs.Booleans.{not-was-true, not-was-false}
 use Rattle.model.proofs.PreviewLaws.{preview-out-of-range}
+use Rattle.network.proofs.Bounds.{memory-lengths}
 use Rattle.sandbox.specs.Gathered.{InRange}
-use Rattle.sandbox.proofs.GatherLaws.{value-in-range, narrow-shown}
+use Rattle.sandbox.proofs.GatherLaws.{narrow-shown}
 use Rattle.sandbox.proofs.previews.preview.Statement.{statement}
 use Rattle.sandbox.proofs.previews.preview.Tie as tie
 
@@ -12,7 +13,10 @@ abbrev start : tie.After-gather → tie.Start
 start c = c .before .before .before .before
 
 ranged : (c : tie.After-gather) → InRange (start c .args .memory)
-ranged c = value-in-range (start c .args .memory) (start c .good .0) (not-was-true _ _ (c .before .before .before .in-range .ensures) (c .before .before .if1 .left))
+ranged c = record {
+  ranged = not-was-true _ _ (c .before .before .before .in-range .ensures) (c .before .before .if1 .left);
+  lengths = memory-lengths (start c .args .memory) (start c .good .0);
+}
 
 in-range-requires : tie.Need-in-range-requires
 in-range-requires c κs = search needs

@@ -1,5 +1,4 @@
 -- `previews::shown` meets its contract: 7, or what it was given.
-use mathlib.Core.Path.{sym, _∙_}
 use borrow.Author.Needs.{needs}
 use Rattle.base.proofs.Booleans.{was-true, was-false}
 use Rattle.sandbox.specs.Shown.{unlessFull}

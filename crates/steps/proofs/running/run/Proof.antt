@@ -20,14 +20,14 @@ use Rattle.network.specs.declared.Packet.{Packet}
 use Rattle.network.specs.declared.Memory.{Memory}
 use Rattle.network.specs.View.{zeroPacket, labelOf, view}
 use Rattle.network.proofs.ViewLaws.{row-at}
-use Rattle.network.proofs.Bounds.{array-length}
+use Rattle.network.proofs.Bounds.{memory-lengths, array-length}
 use Rattle.network.proofs.Ranged.{Ranged}
 use Rattle.decisions.specs.Tracing.{tells}
 use Rattle.station.proofs.Laws.{sent-few}
 use Rattle.steps.specs.Lines.{packed, Fits}
 use Rattle.steps.specs.Happens.{happened, Happens}
 use Rattle.steps.proofs.PacketMoves.{rest-down, rest-one-less, rest-few}
-use Rattle.steps.proofs.RunLaws.{airing, Shape, memory-shape, shape-ranged, Turn, turn-none, turn-ranged, turn-length, turn-more}
+use Rattle.steps.proofs.RunLaws.{airing, Shape, lengths-shape, shape-ranged, Turn, turn-none, turn-ranged, turn-length, turn-more}
 use Rattle.steps.proofs.ArmLaws.{seen, Tested, class-cut, turned-down, light-shape, light-happens, trace-below, trace-happens}
 use Rattle.steps.proofs.ChangeLaws.{Looks, unused, arrived, goes, changed, changed-shape, change-7, ChangeMoved, change-happens}
 use Rattle.steps.proofs.CutLaws.{Lost, lost-none, lost-below, lost-more, CutRows, cut-none, cut-more, cut-all}
@@ -201,7 +201,7 @@ pair c = omega (arith, c .pair-place .ensures, inside (c .before))
 
 -- The memory at the start has its sizes.
 start-shape : (c : Of tie.Start) → Shape (c .args .t1) (c .args .t1 .air .packets)
-start-shape c = memory-shape (c .args .t1) (c .good .0)
+start-shape c = lengths-shape (memory-lengths (c .args .t1) (c .good .0))
 
 -- There are at most 16 stations.
 few-stations : (c : Of tie.After-class-of) → turn c .loop .memory .n ≤ 16
