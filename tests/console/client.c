@@ -1,6 +1,6 @@
 /*
- * A client in C of the entry points in include/srp.h. It holds them to 01 and to docs/LAYOUT.md: 01's example, New label, scripts,
- * refusals, memory that was damaged, and the places that are free.
+ * A client in C of the entry points in include/srp.h. It holds them to 01 and to docs/LAYOUT.md: 01's example, previews, New label,
+ * scripts, refusals, memory that was damaged, and the places that are free.
  *
  *     client [STEP]     damages every STEP-th byte of the memory in turn; 1 if not given
  *
@@ -110,7 +110,7 @@ static uint64_t next_random(uint64_t *state)
 /* ---- Calls ---------------------------------------------------------------------------------- */
 
 /* Every call on memory, by a number: the script's kinds 1 to 9, then these. */
-enum { OPEN = 10, SIZE, AIR, LINK, LABEL, ROW, RECORD, STATION, PACKET, KINDS };
+enum { OPEN = 10, SIZE, AIR, LINK, LABEL, ROW, RECORD, STATION, PACKET, PREVIEW, KINDS };
 
 /* Open has n as a and start as b. */
 struct call {
@@ -132,6 +132,7 @@ static size_t shown_bytes(int kind)
     case RECORD: return SRP_RECORD_BYTES;
     case STATION: return SRP_STATION_BYTES;
     case PACKET: return SRP_PACKET_BYTES;
+    case PREVIEW: return SRP_PREVIEW_BYTES;
     default: return 0;
     }
 }
@@ -156,7 +157,8 @@ static uint64_t make(struct call c, uint8_t *memory, size_t length, uint8_t *out
     case ROW: return srp_row(memory, length, c.a, c.b, out, out_length);
     case RECORD: return srp_record(memory, length, c.a, c.b, out, out_length);
     case STATION: return srp_station(memory, length, c.a, out, out_length);
-    default: return srp_packet(memory, length, c.a, out, out_length);
+    case PACKET: return srp_packet(memory, length, c.a, out, out_length);
+    default: return srp_preview(memory, length, c.a, out, out_length);
     }
 }
 
@@ -756,6 +758,183 @@ static void test_other_successors(void)
     check_other_successor(3, 1);
 }
 
+/* ---- Previews ------------------------------------------------------------------------------- */
+
+/* The mask of station i's rows that are not empty before and are empty after. */
+static unsigned emptied(const uint8_t *before, const uint8_t *after, unsigned i)
+{
+    unsigned mask = 0;
+
+    for (unsigned t = 0; t < before[SRP_N_AT]; t++)
+        if (before[SRP_ROW_AT(i, t) + SRP_ROW_COUNT] && !after[SRP_ROW_AT(i, t) + SRP_ROW_COUNT])
+            mask |= 1u << t;
+    return mask;
+}
+
+/* What a preview of packet k is to show, from the network before the packet was delivered and after. */
+static void put_preview(uint8_t *at, const uint8_t *before, const uint8_t *after, size_t k)
+{
+    const uint8_t *packet = before + SRP_PACKET_AT(k);
+    unsigned i = packet[SRP_PACKET_RECEIVER], t = packet[SRP_PACKET_DESTINATION];
+
+    memset(at, 0, SRP_PREVIEW_BYTES);
+    if (packet[SRP_PACKET_KIND] == SRP_ERROR) {
+        put(at + SRP_PREVIEW_MASK, 2, emptied(before, after, i));
+        return;
+    }
+    CHECK_EQ(srp_label(after, LENT, i, t, at + SRP_PREVIEW_LABEL, SRP_LABEL_BYTES), result(SRP_DONE, SRP_LABEL_BYTES));
+    CHECK_EQ(srp_row(after, LENT, i, t, at + SRP_PREVIEW_ROW, SRP_ROW_BYTES), result(SRP_DONE, SRP_ROW_BYTES));
+}
+
+/*
+ * A preview is what Deliver gives on a copy: the result, and what the receiver then has. The memory and the bytes of out past it are as
+ * they were, and all of out where it is turned down.
+ */
+static void check_preview(struct desk *d, size_t k, size_t out_length)
+{
+    unsigned long failures = tally.failures;
+    uint8_t *after = copied(d->memory, LENT);
+    uint8_t wanted[OUT];
+    uint64_t r = srp_deliver(after, LENT, k);
+
+    memset(d->out, 0x5a, OUT);
+    memset(wanted, 0x5a, OUT);
+    if (!SRP_REFUSED(r) && out_length < SRP_PREVIEW_BYTES)
+        r = SRP_NO_ROOM;
+    if (!SRP_REFUSED(r))
+        put_preview(wanted, d->memory, after, k);
+    CHECK_EQ(call_on(d, (struct call){PREVIEW, k, 0}, LENT, out_length), r);
+    CHECK_SAME(d->out, wanted, OUT);
+    CHECK_SAME(d->memory, d->before, LENT);
+    if (tally.failures != failures)
+        fprintf(stderr, "    at packet %zu, into %zu bytes\n", k, out_length);
+    free(after);
+}
+
+/* Every packet in the air, and the place after the last. */
+static void check_previews(struct desk *d)
+{
+    static const size_t lengths[] = {0, SRP_PREVIEW_BYTES - 1, SRP_PREVIEW_BYTES, SRP_PREVIEW_BYTES + 1, OUT};
+
+    for (size_t k = 0; k <= d->memory[SRP_AIR_AT]; k++)
+        for (size_t i = 0; i < sizeof lengths / sizeof *lengths; i++)
+            check_preview(d, k, lengths[i]);
+}
+
+/* After each step of 01's example and of the square. */
+static void test_previews(void)
+{
+    for (size_t steps = 0; steps <= EXAMPLE; steps++) {
+        struct desk *d = example_after(steps);
+
+        check_previews(d);
+        free(d);
+    }
+    for (size_t steps = 0; steps <= SQUARE; steps++) {
+        struct desk *d = square_after(steps);
+
+        check_previews(d);
+        free(d);
+    }
+}
+
+/* A preview by its values: the result, the label, the row's count and the mask. */
+#define CHECK_PREVIEW(d, k, answer, count, s, m, denominator, successors, mask)                                                          \
+    do {                                                                                                                                 \
+        check_preview((d), (k), OUT);                                                                                                    \
+        CHECK_EQ(srp_preview((d)->memory, LENT, (k), (d)->out, OUT), result((answer), (count)));                                         \
+        CHECK_LABEL((d)->out + SRP_PREVIEW_LABEL, (s), (m), (denominator));                                                              \
+        CHECK_EQ((d)->out[SRP_PREVIEW_ROW + SRP_ROW_COUNT], (successors));                                                               \
+        CHECK_EQ(srp_read2((d)->out + SRP_PREVIEW_MASK), (mask));                                                                        \
+    } while (0)
+
+/* Requests. The destination shows its own label, as it is after the step. */
+static void test_previews_of_requests(void)
+{
+    struct desk *d = example_after(3);
+    uint8_t *packet = d->memory + SRP_PACKET_AT(0);
+
+    CHECK_PREVIEW(d, 0, SRP_REQUEST_SENT_ON, 2, 0, 1, 1, 0, 0);
+    play(d, example, 3, 4);
+    CHECK_PREVIEW(d, 0, SRP_REQUEST_ANSWERED, 1, 1, 0, 1, 0, 0);
+    CHECK_PREVIEW(d, 1, SRP_REQUEST_KNOWN, 0, 0, 1, 1, 0, 0);
+    packet[SRP_PACKET_RESET] = 1;
+    put_label(packet + SRP_PACKET_LABEL, UINT64_MAX - 1, 0, 1);
+    CHECK_PREVIEW(d, 0, SRP_REQUEST_ANSWERED, 1, UINT64_MAX, 0, 1, 0, 0);
+    put_label(packet + SRP_PACKET_LABEL, UINT64_MAX, 0, 1);
+    CHECK_PREVIEW(d, 0, SRP_REQUEST_NOT_ANSWERED, 0, 1, 0, 1, 0, 0);
+    free(d);
+}
+
+/* Replies. The label and the row are those after the step, also where another successor leaves the row. */
+static void test_previews_of_replies(void)
+{
+    struct desk *d = example_after(6);
+    uint8_t *packet = d->memory + SRP_PACKET_AT(0), *row = d->memory + SRP_ROW_AT(2, 0);
+
+    CHECK_PREVIEW(d, 0, SRP_REPLY_TAKEN, 1, 1, 1, 2, 1, 0);
+    CHECK_EQ(d->out[SRP_PREVIEW_ROW + SRP_ROW_ENTRIES + SRP_ENTRY_STATION], 0);
+    CHECK_LABEL(d->out + SRP_PREVIEW_ROW + SRP_ROW_ENTRIES + SRP_ENTRY_LABEL, 1, 0, 1);
+    put_label(d->memory + SRP_RECORD_AT(1, 2) + SRP_RECORD_CACHED, 1, 0, 1);
+    CHECK_PREVIEW(d, 0, SRP_CACHED_NOT_ABOVE, 0, 0, 1, 1, 0, 0);
+    put_label(d->memory + SRP_RECORD_AT(1, 2) + SRP_RECORD_CACHED, 0, 1, 1);
+    play(d, example, 6, 7);
+    CHECK_PREVIEW(d, 0, SRP_REPLY_TAKEN, 0, 1, 2, 3, 1, 0);
+    put_label(packet + SRP_PACKET_LABEL, 1, 1, UINT32_MAX);
+    CHECK_PREVIEW(d, 0, SRP_DOES_NOT_FIT, 0, 0, 1, 1, 0, 0);
+    put_label(d->memory + SRP_LABEL_AT(2, 0), 1, 2, 3);
+    row[SRP_ROW_COUNT] = 1;
+    row[SRP_ROW_ENTRIES + SRP_ENTRY_STATION] = 0;
+    put_label(row + SRP_ROW_ENTRIES + SRP_ENTRY_LABEL, 1, 0, 1);
+    put_label(packet + SRP_PACKET_LABEL, 1, 2, 3);
+    CHECK_PREVIEW(d, 0, SRP_OWN_NOT_ABOVE, 0, 1, 2, 3, 1, 0);
+    put_label(packet + SRP_PACKET_LABEL, 2, 0, 1);
+    CHECK_PREVIEW(d, 0, SRP_REPLY_TAKEN, 0, 2, 1, 2, 1, 0);
+    CHECK_EQ(d->out[SRP_PREVIEW_ROW + SRP_ROW_ENTRIES + SRP_ENTRY_STATION], 1);
+    put_label(row + SRP_ROW_ENTRIES + SRP_ENTRY_LABEL, 3, 0, 1);
+    CHECK_PREVIEW(d, 0, SRP_REPLY_TAKEN, 0, 2, 1, 2, 2, 0);
+    put(packet + SRP_PACKET_NUMBER, 4, 2);
+    CHECK_PREVIEW(d, 0, SRP_REPLY_UNASKED, 0, 1, 2, 3, 1, 0);
+    free(d);
+}
+
+/* Station i's row for t: the first so many of stations 0, 2 and 3. */
+static void put_successors(uint8_t *memory, unsigned i, unsigned t, uint8_t count)
+{
+    static const uint8_t stations[] = {0, 2, 3};
+    uint8_t *row = memory + SRP_ROW_AT(i, t);
+
+    row[SRP_ROW_COUNT] = count;
+    for (unsigned k = 0; k < count; k++) {
+        row[SRP_ROW_ENTRIES + SRP_ENTRY_BYTES * k + SRP_ENTRY_STATION] = stations[k];
+        put_label(row + SRP_ROW_ENTRIES + SRP_ENTRY_BYTES * k + SRP_ENTRY_LABEL, 1, 0, 1);
+    }
+}
+
+/* Errors, which show no label and no row. Of 16 stations, 1 is told by 0 that it has none for 2, 4, 9 and 15. */
+static void test_previews_of_errors(void)
+{
+    struct desk *d = opened(16, 1);
+    uint8_t *packet = d->memory + SRP_PACKET_AT(0);
+
+    CHECK_EQ(call_on(d, (struct call){SRP_EVENT_UP, 1, 5}, LENT, OUT), SRP_DONE);
+    CHECK_EQ(call_on(d, (struct call){SRP_EVENT_UP, 7, 1}, LENT, OUT), SRP_DONE);
+    d->memory[SRP_AIR_AT] = 1;
+    packet[SRP_PACKET_RECEIVER] = 1;
+    packet[SRP_PACKET_KIND] = SRP_ERROR;
+    put(packet + SRP_PACKET_MASK, 2, 1u << 2 | 1u << 4 | 1u << 9 | 1u << 15);
+    put_successors(d->memory, 1, 3, 1);
+    CHECK_PREVIEW(d, 0, SRP_ERROR_NONE_REMOVED, 0, 0, 0, 0, 0, 0);
+    put_successors(d->memory, 1, 9, 3);
+    CHECK_PREVIEW(d, 0, SRP_ERROR_NONE_EMPTIED, 0, 0, 0, 0, 0, 0);
+    put_successors(d->memory, 1, 2, 1);
+    CHECK_PREVIEW(d, 0, SRP_ERROR_EMPTIED, 2, 0, 0, 0, 0, 1u << 2);
+    put_successors(d->memory, 1, 15, 1);
+    CHECK_PREVIEW(d, 0, SRP_ERROR_EMPTIED, 2, 0, 0, 0, 0, 1u << 2 | 1u << 15);
+    check_previews(d);
+    free(d);
+}
+
 /* ---- New label ------------------------------------------------------------------------------ */
 
 struct label {
@@ -1133,7 +1312,7 @@ static void test_no_station(void)
 /* 3, 4, 5 and 6. Station 2 is active, and one packet is in the air. */
 static void test_not_as_it_stands(void)
 {
-    static const int of_packets[] = {SRP_EVENT_DELIVER, SRP_EVENT_LOSE, SRP_EVENT_DUPLICATE, PACKET};
+    static const int of_packets[] = {SRP_EVENT_DELIVER, SRP_EVENT_LOSE, SRP_EVENT_DUPLICATE, PACKET, PREVIEW};
     struct desk *d = example_after(3);
 
     CHECK_REFUSED(d, SRP_LINK_ALREADY, SRP_EVENT_UP, 0, 1);
@@ -1167,7 +1346,7 @@ static void fill_air(struct desk *d, unsigned packets)
     }
 }
 
-/* 7: of Duplicate, Solicit, Deliver and Down. What sends no more is not turned down. */
+/* 7: of Duplicate, Solicit, Deliver, its preview and Down. What sends no more is not turned down. */
 static void test_air_full(void)
 {
     struct desk *d = example_after(3);
@@ -1179,7 +1358,11 @@ static void test_air_full(void)
     CHECK_REFUSED(d, SRP_NO_PACKET, SRP_EVENT_DUPLICATE, SRP_MAX_PACKETS, 0);
     CHECK_REFUSED(d, SRP_AIR_FULL, SRP_EVENT_SOLICIT, 0, 1);
     CHECK_REFUSED(d, SRP_AIR_FULL, SRP_EVENT_DELIVER, 0, 0); /* 1 would send two on */
+    CHECK_REFUSED(d, SRP_AIR_FULL, PREVIEW, 0, 0);
+    check_refused(__LINE__, d, (struct call){PREVIEW, 0, 0}, LENT, 0, SRP_AIR_FULL);
+    check_refused(__LINE__, d, (struct call){PREVIEW, SRP_MAX_PACKETS, 0}, LENT, 0, SRP_NO_PACKET);
     CHECK_EQ(call_on(d, (struct call){SRP_EVENT_LOSE, SRP_MAX_PACKETS - 1, 0}, LENT, OUT), SRP_DONE);
+    CHECK_PREVIEW(d, 0, SRP_REQUEST_SENT_ON, 2, 0, 1, 1, 0, 0);
     CHECK_EQ(call_on(d, (struct call){SRP_EVENT_DELIVER, 0, 0}, LENT, OUT), result(SRP_REQUEST_SENT_ON, 2));
     check_left(__LINE__, d);
     CHECK_EQ(srp_air(d->memory, LENT), result(SRP_DONE, SRP_MAX_PACKETS));
@@ -1189,6 +1372,7 @@ static void test_air_full(void)
     fill_air(d, SRP_MAX_PACKETS);
     CHECK_EQ(call_on(d, (struct call){SRP_EVENT_GIVE_UP, 2, 0}, LENT, OUT), SRP_DONE);
     CHECK_EQ(call_on(d, (struct call){SRP_EVENT_SOLICIT, 2, 0}, LENT, OUT), SRP_DONE); /* no neighbour, nothing sent */
+    CHECK_PREVIEW(d, 5, SRP_REQUEST_ANSWERED, 1, 1, 0, 1, 0, 0);
     CHECK_EQ(call_on(d, (struct call){SRP_EVENT_DELIVER, 5, 0}, LENT, OUT), result(SRP_REQUEST_ANSWERED, 1));
     CHECK_EQ(srp_air(d->memory, LENT), result(SRP_DONE, SRP_MAX_PACKETS));
     check_left(__LINE__, d);
@@ -1205,6 +1389,7 @@ static void test_air_over_full(void)
     d->memory[SRP_AIR_AT] = SRP_MAX_PACKETS + 1;
     CHECK_EQ(srp_air(d->memory, LENT), SRP_OUT_OF_RANGE);
     CHECK_REFUSED(d, SRP_OUT_OF_RANGE, SRP_EVENT_LOSE, SRP_MAX_PACKETS, 0);
+    CHECK_REFUSED(d, SRP_OUT_OF_RANGE, PREVIEW, SRP_MAX_PACKETS, 0);
     CHECK_REFUSED(d, SRP_OUT_OF_RANGE, SRP_EVENT_UP, 0, 2);
     free(d);
 }
@@ -1249,17 +1434,19 @@ static void test_no_room(void)
     struct desk *d = example_after(3);
 
     for (int kind = LABEL; kind < KINDS; kind++) {
-        struct call c = {kind, 0, kind == PACKET ? 0 : 1}, wrong = {kind, 3, 3};
+        bool of_packet = kind == PACKET || kind == PREVIEW;
+        struct call c = {kind, 0, of_packet ? 0 : 1}, wrong = {kind, 3, 3};
         size_t bytes = shown_bytes(kind);
+        uint64_t done = kind == PREVIEW ? result(SRP_REQUEST_SENT_ON, 2) : result(SRP_DONE, bytes);
         uint8_t *out = allocated(bytes);
 
         check_refused(__LINE__, d, c, LENT, bytes - 1, SRP_NO_ROOM);
         check_refused(__LINE__, d, c, LENT, 1, SRP_NO_ROOM);
         check_refused(__LINE__, d, c, LENT, 0, SRP_NO_ROOM);
-        check_refused(__LINE__, d, wrong, LENT, 0, kind == PACKET ? SRP_NO_PACKET : SRP_NO_STATION);
+        check_refused(__LINE__, d, wrong, LENT, 0, of_packet ? SRP_NO_PACKET : SRP_NO_STATION);
         check_refused(__LINE__, d, wrong, SRP_LENGTH - 1, 0, SRP_OUT_OF_RANGE);
-        CHECK_EQ(call_on(d, c, LENT, OUT), result(SRP_DONE, bytes));
-        CHECK_EQ(make(c, d->memory, SRP_LENGTH, out, bytes), result(SRP_DONE, bytes));
+        CHECK_EQ(call_on(d, c, LENT, OUT), done);
+        CHECK_EQ(make(c, d->memory, SRP_LENGTH, out, bytes), done);
         CHECK_SAME(out, d->out, bytes);
         free(out);
     }
@@ -1459,6 +1646,7 @@ static const struct call trials[] = {
     {SRP_EVENT_GIVE_UP, 0, 0},   {SRP_EVENT_EXPIRE, 3, 0},    {SRP_EVENT_EXPIRE, 0, 1},  {SRP_EVENT_LOSE, 2, 0},    {SRP_EVENT_LOSE, 4, 0},
     {SRP_EVENT_DUPLICATE, 0, 0}, {SRP_EVENT_DUPLICATE, 3, 0}, {SRP_EVENT_TRACE, 3, 0},   {SRP_EVENT_TRACE, 1, 0},   {LABEL, 3, 0},
     {ROW, 3, 0},                 {RECORD, 2, 3},              {STATION, 3, 0},           {PACKET, 4, 0},            {LINK, 2, 3},
+    {PREVIEW, 0, 0},             {PREVIEW, 1, 0},             {PREVIEW, 2, 0},           {PREVIEW, 3, 0},           {PREVIEW, 4, 0},
 };
 #define TRIALS (sizeof trials / sizeof *trials)
 
@@ -1712,6 +1900,10 @@ int main(int argc, char **argv)
     test_other_calls();
     test_hand_written();
     test_other_successors();
+    test_previews();
+    test_previews_of_requests();
+    test_previews_of_replies();
+    test_previews_of_errors();
     test_new_label();
     test_splits();
     test_reading();

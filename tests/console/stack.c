@@ -43,6 +43,7 @@ static void call_row(struct frame *f) { f->result = srp_row(f->memory, SRP_LENGT
 static void call_record(struct frame *f) { f->result = srp_record(f->memory, SRP_LENGTH, f->a, f->b, f->out, ROOM); }
 static void call_station(struct frame *f) { f->result = srp_station(f->memory, SRP_LENGTH, f->a, f->out, ROOM); }
 static void call_packet(struct frame *f) { f->result = srp_packet(f->memory, SRP_LENGTH, f->k, f->out, ROOM); }
+static void call_preview(struct frame *f) { f->result = srp_preview(f->memory, SRP_LENGTH, f->k, f->out, ROOM); }
 static void call_new_label(struct frame *f) { f->result = srp_new_label(1, 2, 3, 1, 2, 3, 1, 1, 2); }
 static void call_read_script(struct frame *f)
 {
@@ -115,6 +116,7 @@ static struct {
 };
 
 static size_t most_deliver;
+static size_t most_preview;
 static size_t most_trace;
 
 static void report(const char *name, size_t bytes)
@@ -133,12 +135,15 @@ static void measure(struct frame *f, size_t i)
     if (bytes > calls[i].most) calls[i].most = bytes;
 }
 
-/* Delivers the first packet until the air is empty, so that requests, replies and errors are measured. */
+/* Previews and delivers the first packet until the air is empty, so that requests, replies and errors are measured. */
 static void deliver_all(struct frame *f)
 {
     f->k = 0;
     while (SRP_COUNT(srp_air(f->memory, SRP_LENGTH)) > 0) {
-        size_t bytes = needed_by(f, call_deliver);
+        size_t bytes = needed_by(f, call_preview);
+        must(!SRP_REFUSED(f->result), "srp_preview");
+        if (bytes > most_preview) most_preview = bytes;
+        bytes = needed_by(f, call_deliver);
         must(!SRP_REFUSED(f->result), "srp_deliver");
         if (bytes > most_deliver) most_deliver = bytes;
     }
@@ -181,6 +186,7 @@ int main(void)
     printf("bytes of stack:\n");
     report("srp_open", opened);
     report("srp_deliver", most_deliver);
+    report("srp_preview", most_preview);
     report("srp_trace", most_trace);
     for (size_t i = 0; i < sizeof calls / sizeof calls[0]; i++) report(calls[i].name, calls[i].most);
     report("srp_script_start", needed_by(&f, call_script_start));

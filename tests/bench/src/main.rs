@@ -4,13 +4,13 @@
 //! Each round times one build and then the other, for some milliseconds, since the machine may not be as fast in the next. The tables
 //! have the medians of the rounds and of their ratios, and between which the middle half of the ratios lies.
 
-use differential::calls::{answer_of, by_library, by_reference, call_of, Call};
+use differential::calls::{answer_of, by_library, by_reference, call_of, Call, OUT};
 use differential::program::root;
 use differential::random::Random;
 use differential::scripts::{styled, Script, STYLES};
 use reference::label::{Label, UNASSIGNED};
 use reference::network::{Bytes, Network, LENGTH, MAX_STATIONS};
-use reference::script::MAX_EVENTS;
+use reference::script::{DELIVER, MAX_EVENTS};
 use std::hint::black_box;
 use std::io::Write;
 use std::path::Path;
@@ -158,7 +158,7 @@ fn bench_parts(scripts: &[(String, Script)]) {
 fn calls_on(make: Make, network: &[u8], call: Call) -> f64 {
     const CALLS: usize = 300;
     let mut memory = network.to_vec();
-    let mut out = [0; 100];
+    let mut out = [0; OUT];
     let copied = timed(CALLS, || (0..CALLS).for_each(|_| black_box(&mut memory).copy_from_slice(black_box(network))));
     let all = timed(CALLS, || {
         for _ in 0..CALLS {
@@ -184,11 +184,19 @@ fn before_answer(scripts: &[(String, Script)], kind: u8, answer: u32) -> (Vec<u8
     panic!("no event of kind {kind} is answered {answer}")
 }
 
+/// Such a network, and the packet whose delivery is answered so.
+fn before_delivery(scripts: &[(String, Script)], answer: u32) -> (Vec<u8>, usize) {
+    match before_answer(scripts, DELIVER, answer) {
+        (network, Call::Deliver(k)) => (network, k),
+        (_, call) => panic!("{call:?} delivers nothing"),
+    }
+}
+
 /// So many packets at least are in the air where a call is timed by its answer.
 const SOME_PACKETS: u8 = 30;
 
 fn bench_calls(scripts: &[(String, Script)]) {
-    use reference::script::{DELIVER, DOWN, DUPLICATE, EXPIRE, GIVE_UP, LOSE, SOLICIT, TRACE, UP};
+    use reference::script::{DOWN, DUPLICATE, EXPIRE, GIVE_UP, LOSE, SOLICIT, TRACE, UP};
     heading("Nanoseconds for each console call, by its answer, in networks of 16 stations with 30 packets or more in the air.");
     let calls = [
         ("Deliver, a request that is known (101)", DELIVER, 101),
@@ -213,9 +221,50 @@ fn bench_calls(scripts: &[(String, Script)]) {
         assert_eq!(answer_of(by_library(call, &mut network.clone(), &mut [])), answer);
         Times::of(|| (calls_on(by_library, &network, call), calls_on(by_reference, &network, call))).print(what);
     }
+    let previews = [
+        ("Preview, a request that is answered (102)", 102),
+        ("Preview, a reply that is taken (115)", 115),
+        ("Preview, an error that empties rows (123)", 123),
+    ];
+    for (what, answer) in previews {
+        let (network, k) = before_delivery(scripts, answer);
+        let call = Call::Preview(k);
+        assert_eq!(answer_of(by_library(call, &mut network.clone(), &mut [0; OUT])), answer);
+        Times::of(|| (calls_on(by_library, &network, call), calls_on(by_reference, &network, call))).print(what);
+    }
     let (network, _) = before_answer(scripts, DELIVER, 103);
     for (what, call) in [("Open", Call::Open(16, 1)), ("Size", Call::Size), ("Row", Call::Row(3, 0)), ("Packet", Call::Packet(7))] {
         Times::of(|| (calls_on(by_library, &network, call), calls_on(by_reference, &network, call))).print(what);
+    }
+}
+
+/// A preview beside the row of its receiver and destination, which an error has as 0, and beside Deliver of the packet. Each round has the
+/// three in turns.
+fn bench_previews(scripts: &[(String, Script)]) {
+    println!(
+        "\nNanoseconds for each preview in the library alone, beside Row and beside Deliver of the same packet, in the same networks. Each \
+         ratio is that of the preview to the call before it.\n"
+    );
+    println!("| | Preview | Row | Ratio | Deliver | Ratio |\n|---|---|---|---|---|---|");
+    let packets = [
+        ("a request that is known (101)", 101),
+        ("a request that is answered (102)", 102),
+        ("a request that is sent on (103)", 103),
+        ("a reply that is taken (115)", 115),
+        ("an error (121)", 121),
+        ("an error that empties rows (123)", 123),
+    ];
+    for (what, answer) in packets {
+        let (network, k) = before_delivery(scripts, answer);
+        let packet = Network::of(&network).unwrap().packets[k];
+        let row = Call::Row(usize::from(packet.receiver), usize::from(packet.destination));
+        let round = || [Call::Preview(k), row, Call::Deliver(k)].map(|call| calls_on(by_library, &network, call));
+        round();
+        let rounds: Vec<_> = (0..ROUNDS).map(|_| round()).collect();
+        let [preview, row, deliver] = [0, 1, 2].map(|call| rounded(median(rounds.iter().map(|round| round[call]))));
+        let [to_row, to_deliver] = [1, 2].map(|call| median(rounds.iter().map(|round| round[0] / round[call])));
+        println!("| {what} | {preview} | {row} | {to_row:.2} | {deliver} | {to_deliver:.2} |");
+        eprintln!("bench: {what}");
     }
 }
 
@@ -279,6 +328,7 @@ fn main() {
     bench_scripts_by_calls(&scripts);
     bench_parts(&scripts);
     bench_calls(&scripts);
+    bench_previews(&scripts);
     bench_labels();
     bench_script_bytes(&scripts[0].1);
 }

@@ -1,7 +1,8 @@
 //! Calls on memory, each made on both builds, and what differs.
 
 use reference::calls::Answer;
-use reference::network::{Network, Packet, Record, Row, LENGTH};
+use reference::label::Label;
+use reference::network::{Network, Packet, Preview, Record, Row, ERROR, LENGTH};
 use reference::printout::put_event;
 use reference::script;
 use std::mem::{offset_of, size_of};
@@ -27,6 +28,7 @@ pub enum Call {
     Record(usize, usize),
     Station(usize),
     Packet(usize),
+    Preview(usize),
 }
 
 /// The call by one of the builds, whose functions have the same names.
@@ -53,6 +55,7 @@ macro_rules! made_by {
                 Call::Record(i, source) => build::record(memory, i, source, out),
                 Call::Station(i) => build::station(memory, i, out),
                 Call::Packet(k) => build::packet(memory, k, out),
+                Call::Preview(k) => build::preview(memory, k, out),
             }
         }
     };
@@ -92,16 +95,24 @@ fn is_refused(result: u64) -> bool {
 /// Longer than anything that a call shows.
 pub const OUT: usize = 100;
 
+/// The bytes that a preview shows.
+pub const PREVIEW: usize = size_of::<Preview>();
+
 /// The same bytes twice, one slice for each build, and an output slice for each.
 pub struct Desk {
     library: Vec<u8>,
     reference: Vec<u8>,
     before: Vec<u8>,
+    /// Where the library delivers a packet that it previews.
+    copy: Vec<u8>,
     library_out: [u8; OUT],
     reference_out: [u8; OUT],
 }
 
 const UNUSED: u8 = 0x5a;
+
+/// The result of a call whose output slice is too short.
+const NO_ROOM: u64 = 12;
 
 impl Desk {
     pub fn new(bytes: &[u8]) -> Desk {
@@ -109,6 +120,7 @@ impl Desk {
             library: bytes.to_vec(),
             reference: bytes.to_vec(),
             before: bytes.to_vec(),
+            copy: bytes.to_vec(),
             library_out: [UNUSED; OUT],
             reference_out: [UNUSED; OUT],
         }
@@ -155,6 +167,48 @@ impl Desk {
         }
         self.compare(result).map_err(|what| format!("the memory after this event:\n{line}{what}"))?;
         Ok(result)
+    }
+
+    /// A preview on both builds, and the library's own Deliver on a copy of the memory: the results are the same, what the preview shows is
+    /// what the copy then has, and the memory is as it was.
+    pub fn preview(&mut self, k: usize, out_length: usize) -> Result<u64, String> {
+        let result = self.call(Call::Preview(k), out_length)?;
+        let fails = |what: String| Err(format!("Preview({k}) into {out_length} bytes, result {}: {what}", shown(result)));
+        if self.library != self.before {
+            return fails("the library wrote to the memory".into());
+        }
+        self.copy.copy_from_slice(&self.library);
+        let delivered = library::deliver(&mut self.copy, k);
+        let wanted = if is_refused(delivered) || out_length >= PREVIEW { delivered } else { NO_ROOM };
+        if result != wanted {
+            return fails(format!("Deliver on a copy gives {}", shown(delivered)));
+        }
+        if !is_refused(result) {
+            let wanted = self.delivered(k);
+            if self.library_out[..PREVIEW] != wanted {
+                return fails(format!("shown is {:02x?}, and Deliver on a copy leaves {wanted:02x?}", &self.library_out[..PREVIEW]));
+            }
+        }
+        Ok(result)
+    }
+
+    /// What the library shows of the copy after packet k was delivered there, in the places of a preview.
+    fn delivered(&self, k: usize) -> [u8; PREVIEW] {
+        let (before, after) = (Network::of(&self.library).unwrap(), Network::of(&self.copy).unwrap());
+        let packet = before.packets[k];
+        let (i, t) = (usize::from(packet.receiver), usize::from(packet.destination));
+        let mut bytes = [0; PREVIEW];
+        let (label, rest) = bytes.split_at_mut(size_of::<Label>());
+        let (row, mask) = rest.split_at_mut(size_of::<Row>());
+        if packet.kind == ERROR {
+            let emptied = |t: &usize| before.rows[i][*t].count > 0 && after.rows[i][*t].count == 0;
+            let emptied = (0..before.stations()).filter(emptied).fold(0u16, |mask, t| mask | 1 << t);
+            mask.copy_from_slice(&emptied.to_le_bytes());
+        } else {
+            library::label(&self.copy, i, t, label);
+            library::row(&self.copy, i, t, row);
+        }
+        bytes
     }
 
     /// Whether all bytes are the same, and as before where the call was turned down, which then counts nothing.

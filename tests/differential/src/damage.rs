@@ -141,7 +141,7 @@ pub fn check_clauses(case: usize, examples: &[Script]) -> Result<Tally, String> 
         if answer_of(result) != 1 && !matches!(call, Call::Open(..)) {
             return Err(format!("clause {clause} is broken, and {call:?} is answered {}", answer_of(result)));
         }
-        tally.count(answer_of(result));
+        tally.count_call(call, answer_of(result));
     }
     Ok(tally)
 }
@@ -168,7 +168,7 @@ pub fn check_bytes(case: usize, examples: &[Script]) -> Result<Tally, String> {
         for _ in 0..2 {
             let call = some_call(&mut random, network.stations(), usize::from(network.in_air));
             let result = desk.call(call, OUT).map_err(|what| format!("trial {trial}, where {}: {what}", changes.join(", ")))?;
-            tally.count(answer_of(result));
+            tally.count_call(call, answer_of(result));
         }
     }
     Ok(tally)

@@ -24,8 +24,9 @@ struct Family {
     name: &'static str,
     cases: usize,
     check: Check,
-    /// The answers that these tests have to meet.
+    /// The answers that these tests have to meet, and those that their previews have to.
     meets: &'static [u32],
+    previews: &'static [u32],
 }
 
 /// The scripts that the examples are.
@@ -49,6 +50,7 @@ fn families() -> Vec<Family> {
             cases: 1 + 1_000_000 / TRIPLES,
             check: Box::new(|case| if case == 0 { labels::check_cases() } else { labels::check_random(case, TRIPLES) }),
             meets: &[0, 1, 112, 113, 114],
+            previews: &[],
         },
         Family {
             name: "script-bytes",
@@ -61,37 +63,43 @@ fn families() -> Vec<Family> {
                 _ => script_bytes::check_each_byte(case - 4),
             }),
             meets: &[0, 1, 9, 10, 11, 12],
+            previews: &[],
         },
         Family {
             name: "networks",
             cases: 20_000,
             check: Box::new(networks::check_network),
             meets: &[0, 1, 2, 3, 4, 5, 6, 7, 8, 12, 101, 102, 103, 104, 111, 112, 113, 114, 115, 121, 122, 123, 131, 132, 133],
+            previews: &[6, 7, 12, 101, 102, 103, 104, 111, 112, 113, 114, 115, 121, 122, 123],
         },
-        Family { name: "memory-lengths", cases: 300, check: Box::new(networks::check_lengths), meets: &[0, 1] },
+        Family { name: "memory-lengths", cases: 300, check: Box::new(networks::check_lengths), meets: &[0, 1], previews: &[1, 6] },
         Family {
             name: "broken-clauses",
             cases: 2_000,
             check: Box::new(move |case| damage::check_clauses(case, &for_clauses)),
             meets: &[1],
+            previews: &[1],
         },
         Family {
             name: "damaged-memory",
             cases: 12_000,
             check: Box::new(move |case| damage::check_bytes(case, &for_memory)),
             meets: &[0, 1, 2, 6],
+            previews: &[1, 6, 101, 102, 103, 111, 112, 113, 115, 121, 122, 123],
         },
         Family {
             name: "damaged-scripts",
             cases: 600,
             check: Box::new(move |case| script_bytes::check_damaged(case, &for_damage)),
             meets: &[0, 1, 9, 10, 11],
+            previews: &[],
         },
         Family {
             name: "scripts",
             cases: 2_520,
             check: Box::new(move |case| scripts::check(&scripts::script_of(case, &scripts), &mut Random::new(!case as u64))),
             meets: &[0, 2, 3, 4, 5, 6, 7, 101, 102, 103, 104, 111, 112, 114, 115, 121, 122, 123, 131, 132],
+            previews: &[6, 7, 12, 101, 102, 103, 104, 111, 112, 114, 115, 121, 122, 123],
         },
     ]
 }
@@ -142,22 +150,22 @@ fn check_family(family: &Family) -> Result<Tally, (usize, String)> {
 }
 
 /// How often each family met each answer, and all together.
-fn print_met(tallies: &[(&Family, Tally)]) {
-    let names: String = tallies.iter().map(|(family, _)| format!(" {:>15}", family.name)).collect();
-    println!("answer{names} {:>15}", "all");
+fn print_met(title: &str, met: &[(&Family, [u64; ANSWERS])]) {
+    let names: String = met.iter().map(|(family, _)| format!(" {:>15}", family.name)).collect();
+    println!("{title:>7}{names} {:>15}", "all");
     for answer in 0..ANSWERS {
-        let met: Vec<u64> = tallies.iter().map(|(_, tally)| tally.met[answer]).collect();
+        let met: Vec<u64> = met.iter().map(|(_, met)| met[answer]).collect();
         let all: u64 = met.iter().sum();
         if all > 0 {
             let numbers: String = met.iter().map(|number| format!(" {number:>15}")).collect();
-            println!("{answer:>6}{numbers} {all:>15}");
+            println!("{answer:>7}{numbers} {all:>15}");
         }
     }
 }
 
-/// The answers that a family has to meet and did not.
-fn missed<'a>(family: &'a Family, tally: &'a Tally) -> impl Iterator<Item = u32> + 'a {
-    family.meets.iter().copied().filter(|&answer| tally.met[answer as usize] == 0)
+/// The answers that had to be met and were not.
+fn missed<'a>(to_meet: &'a [u32], met: &'a [u64; ANSWERS]) -> impl Iterator<Item = u32> + 'a {
+    to_meet.iter().copied().filter(|&answer| met[answer as usize] == 0)
 }
 
 fn check_all() -> ExitCode {
@@ -179,11 +187,19 @@ fn check_all() -> ExitCode {
             Err((case, what)) => return failed(family, case, &what),
         }
     }
-    print_met(&tallies);
+    let met: Vec<_> = tallies.iter().map(|(family, tally)| (*family, tally.met)).collect();
+    print_met("answer", &met);
+    let previewed = tallies.iter().filter(|(family, _)| !family.previews.is_empty());
+    let previewed: Vec<_> = previewed.map(|(family, tally)| (*family, tally.previewed)).collect();
+    print_met("preview", &previewed);
     let mut code = ExitCode::SUCCESS;
     for (family, tally) in &tallies {
-        for answer in missed(family, tally) {
+        for answer in missed(family.meets, &tally.met) {
             println!("differential: {} never met answer {answer}", family.name);
+            code = ExitCode::FAILURE;
+        }
+        for answer in missed(family.previews, &tally.previewed) {
+            println!("differential: {} never met answer {answer} by a preview", family.name);
             code = ExitCode::FAILURE;
         }
     }
@@ -220,7 +236,7 @@ fn check_script(hex: &str) -> ExitCode {
     let Some(bytes) = bytes_of(hex) else { return usage() };
     print!("{}", String::from_utf8_lossy(&reference::printout::rehearse(&bytes)));
     let checked = match Script::of(&bytes) {
-        Ok(script) => scripts::check(&script, &mut Random::new(0)).map(|_| ()),
+        Ok(script) => scripts::check(&script, &mut Random::new(0)).and_then(|_| scripts::check_previews(&script)),
         Err(_) => scripts::check_program(&bytes),
     };
     match checked {

@@ -1,6 +1,6 @@
 //! Memory that no list of calls makes: random networks in range, and slices of other lengths.
 
-use crate::calls::{answer_of, Call, Desk, OUT};
+use crate::calls::{answer_of, Call, Desk, OUT, PREVIEW};
 use crate::random::Random;
 use crate::tally::Tally;
 use reference::label::{Label, UNASSIGNED};
@@ -165,7 +165,7 @@ fn some_place(random: &mut Random, in_air: usize) -> usize {
 
 /// A call that mostly names stations and packets that there are.
 pub fn some_call(random: &mut Random, n: usize, in_air: usize) -> Call {
-    const WEIGHTS: [usize; 18] = [1, 6, 8, 10, 4, 3, 60, 3, 8, 10, 1, 1, 2, 2, 2, 2, 2, 2];
+    const WEIGHTS: [usize; 19] = [1, 6, 8, 10, 4, 3, 60, 3, 8, 10, 1, 1, 2, 2, 2, 2, 2, 2, 12];
     let (a, b) = (some_station(random, n), some_station(random, n));
     let k = some_place(random, in_air);
     match random.weighted(&WEIGHTS) {
@@ -186,12 +186,17 @@ pub fn some_call(random: &mut Random, n: usize, in_air: usize) -> Call {
         14 => Call::Row(a, b),
         15 => Call::Record(a, b),
         16 => Call::Station(a),
-        _ => Call::Packet(k),
+        17 => Call::Packet(k),
+        _ => Call::Preview(k),
     }
 }
 
-fn some_out_length(random: &mut Random) -> usize {
-    random.of(&[0, 5, 6, 15, 16, 22, 23, 27, 28, 68, 69, OUT])
+/// Around what a preview shows, or what one of the other calls does.
+fn some_out_length(random: &mut Random, call: Call) -> usize {
+    match call {
+        Call::Preview(_) => random.of(&[0, 69, PREVIEW - 1, PREVIEW, PREVIEW, PREVIEW + 1, PREVIEW + 1, OUT]),
+        _ => random.of(&[0, 5, 6, 15, 16, 22, 23, 27, 28, 68, 69, OUT]),
+    }
 }
 
 /// Calls one after the other on a random network.
@@ -206,11 +211,16 @@ pub fn check_network(case: usize) -> Result<Tally, String> {
     let mut desk = Desk::new(&bytes);
     for step in 0..40 {
         let call = some_call(&mut random, desk.network().stations(), usize::from(desk.network().in_air));
-        let result = desk.call(call, some_out_length(&mut random)).map_err(|what| format!("call {step}: {what}"))?;
+        let out_length = some_out_length(&mut random, call);
+        let result = match call {
+            Call::Preview(k) => desk.preview(k, out_length),
+            _ => desk.call(call, out_length),
+        };
+        let result = result.map_err(|what| format!("call {step}: {what}"))?;
         if answer_of(result) == 1 && !matches!(call, Call::Open(..)) {
             return Err(format!("call {step}: {call:?}: a network in range is taken for one out of range"));
         }
-        tally.count(answer_of(result));
+        tally.count_call(call, answer_of(result));
     }
     Ok(tally)
 }
@@ -232,7 +242,7 @@ pub fn check_lengths(case: usize) -> Result<Tally, String> {
             if length < LENGTH && answer_of(result) != 1 {
                 return Err(format!("{call:?} takes a slice of {length} bytes"));
             }
-            tally.count(answer_of(result));
+            tally.count_call(call, answer_of(result));
         }
         if desk.memory()[whole..] != bytes[whole..] {
             return Err(format!("bytes past the layout changed, of a slice of {length}"));

@@ -1,6 +1,6 @@
 //! Scripts: how they are made, and the test of one.
 
-use crate::calls::{answer_of, Call, Desk, OUT};
+use crate::calls::{answer_of, Call, Desk, OUT, PREVIEW};
 use crate::program::rehearse;
 use crate::random::Random;
 use crate::tally::Tally;
@@ -248,6 +248,21 @@ fn question(random: &mut Random) -> Call {
     }
 }
 
+/// A preview of any packet in the air, now and then of none, mostly into a slice that is long enough. One of five is held to the library's
+/// own Deliver too, which takes three calls more.
+fn check_some_preview(tally: &mut Tally, desk: &mut Desk, random: &mut Random) -> Result<(), String> {
+    let in_air = usize::from(desk.network().in_air);
+    let none = random.percent(2);
+    if in_air == 0 && !none {
+        return Ok(());
+    }
+    let k = if none { in_air + random.below(3) } else { random.below(in_air) };
+    let out_length = if random.percent(5) { random.below(PREVIEW) } else { random.of(&[PREVIEW, PREVIEW + 1, OUT]) };
+    let result = if random.percent(20) { desk.preview(k, out_length)? } else { desk.call(Call::Preview(k), out_length)? };
+    tally.count_preview(answer_of(result));
+    Ok(())
+}
+
 /// A script on both builds, event by event and as a whole by the rehearsal programs.
 pub fn check(script: &Script, random: &mut Random) -> Result<Tally, String> {
     let mut tally = Tally::default();
@@ -263,6 +278,7 @@ pub fn check(script: &Script, random: &mut Random) -> Result<Tally, String> {
         if answer == 1 || answer == 133 {
             return Err(fails(format!("event {index} of a script is answered {answer}")));
         }
+        check_some_preview(&mut tally, &mut desk, random).map_err(fails)?;
         if random.percent(2) {
             desk.call(question(random), random.below(OUT)).map_err(fails)?;
             check_routes(desk.network()).map_err(fails)?;
@@ -271,6 +287,20 @@ pub fn check(script: &Script, random: &mut Random) -> Result<Tally, String> {
     check_routes(desk.network()).map_err(|what| failure(script, script.kinds.len(), what))?;
     check_program(&script.bytes())?;
     Ok(tally)
+}
+
+/// Previews of every packet in the air after a script. One that was cut where a preview differs shows it again.
+pub fn check_previews(script: &Script) -> Result<(), String> {
+    let mut desk = Desk::new(&[0; LENGTH]);
+    desk.call(Call::Open(script.n, script.start), 0)?;
+    for (index, kind, a, b) in script.events() {
+        desk.event(index, kind, a, b)?;
+    }
+    for k in 0..=usize::from(desk.network().in_air) {
+        desk.preview(k, OUT)?;
+        desk.preview(k, PREVIEW - 1)?;
+    }
+    Ok(())
 }
 
 /// What the program prints of any bytes.

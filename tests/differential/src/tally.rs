@@ -1,16 +1,20 @@
 //! How often each answer was met.
 
+use crate::calls::Call;
+
 /// Answers are 0, 1 to 12 and 101 to 133.
 pub const ANSWERS: usize = 134;
 
 pub struct Tally {
     pub calls: u64,
     pub met: [u64; ANSWERS],
+    /// By previews, which `met` leaves out.
+    pub previewed: [u64; ANSWERS],
 }
 
 impl Default for Tally {
     fn default() -> Tally {
-        Tally { calls: 0, met: [0; ANSWERS] }
+        Tally { calls: 0, met: [0; ANSWERS], previewed: [0; ANSWERS] }
     }
 }
 
@@ -20,10 +24,24 @@ impl Tally {
         self.met[answer as usize] += 1;
     }
 
+    pub fn count_preview(&mut self, answer: u32) {
+        self.calls += 1;
+        self.previewed[answer as usize] += 1;
+    }
+
+    /// A call on memory, which may be a preview.
+    pub fn count_call(&mut self, call: Call, answer: u32) {
+        if matches!(call, Call::Preview(_)) {
+            self.count_preview(answer);
+        } else {
+            self.count(answer);
+        }
+    }
+
     pub fn add(&mut self, other: &Tally) {
         self.calls += other.calls;
-        for (all, more) in self.met.iter_mut().zip(other.met) {
-            *all += more;
+        for (all, more) in [(&mut self.met, other.met), (&mut self.previewed, other.previewed)] {
+            all.iter_mut().zip(more).for_each(|(all, more)| *all += more);
         }
     }
 }

@@ -39,6 +39,7 @@ entry_points! { &[u8], as_ptr, *const u8:
     srp_record = record(i: usize, source: usize; out);
     srp_station = station(i: usize; out);
     srp_packet = packet(k: usize; out);
+    srp_preview = preview(k: usize; out);
     srp_script_start = script_start();
 }
 

@@ -2,7 +2,7 @@
 //! before it writes anything; the tests come in 01's order: 2, 3 to 6, 8, 7.
 
 use crate::label::{new_label, Label, UNASSIGNED};
-use crate::network::{Network, Packet, Record, Successor, ERROR, MAX_PACKETS, NO_PACKET, NO_ROW, REPLY, REQUEST};
+use crate::network::{Network, Packet, Preview, Record, Successor, ERROR, MAX_PACKETS, NO_PACKET, NO_PREVIEW, NO_ROW, REPLY, REQUEST};
 
 /// What an accepted call tells: its outcome number (0: none), the packets that it sent, and Trace's hops.
 #[derive(Clone, Copy, PartialEq, Eq, Debug)]
@@ -128,6 +128,23 @@ impl Network {
             REPLY => self.deliver_reply(k),
             _ => self.deliver_error(k),
         }
+    }
+
+    /// "A preview gives the outcome, the number of packets sent, and the receiver's label and row for the packet's destination. For an
+    /// error it gives the emptied mask instead. All equal what Deliver gives on a copy of the network".
+    pub fn preview(&self, k: usize) -> Result<(Done, Preview), u32> {
+        let mut after = *self;
+        let done = after.deliver(k)?;
+        let packet = self.packets[k];
+        let (i, t) = (usize::from(packet.receiver), usize::from(packet.destination));
+        if packet.kind == ERROR {
+            let emptied = |t: &usize| !self.rows[i][*t].is_empty() && after.rows[i][*t].is_empty();
+            let mask = (0..self.stations()).filter(emptied).fold(0, |mask, t| mask | 1 << t);
+            return Ok((done, Preview { mask, ..NO_PREVIEW }));
+        }
+        let mut row = after.rows[i][t];
+        row.settle();
+        Ok((done, Preview { label: after.labels[i][t], row, mask: 0 }))
     }
 
     fn deliver_request(&mut self, k: usize) -> Answer {

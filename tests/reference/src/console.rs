@@ -151,6 +151,15 @@ pub fn packet(memory: &[u8], k: usize, out: &mut [u8]) -> u64 {
     }))
 }
 
+/// What Deliver tells, and 12 after its refusals.
+pub fn preview(memory: &[u8], k: usize, out: &mut [u8]) -> u64 {
+    told(ranged(memory).and_then(|network| {
+        let (done, preview) = network.preview(k)?;
+        put(preview.bytes(), out)?;
+        Ok(done)
+    }))
+}
+
 pub fn read_script(script: &[u8], kinds: &mut [u8], operands: &mut [u8]) -> u64 {
     shown(script::read(script, kinds, operands).map(|sizes| sizes.events as u32 + 65_536 * u32::from(sizes.n)))
 }

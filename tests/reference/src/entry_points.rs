@@ -64,6 +64,7 @@ shows! {
     srp_record = record(i, source);
     srp_station = station(i);
     srp_packet = packet(k);
+    srp_preview = preview(k);
 }
 
 #[no_mangle]

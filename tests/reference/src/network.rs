@@ -51,6 +51,15 @@ pub struct Packet {
     pub mask: u16,
 }
 
+/// What a preview shows: a label and a row, or a mask, and 0 for the rest.
+#[repr(C, packed)]
+#[derive(Clone, Copy, PartialEq, Eq, Debug)]
+pub struct Preview {
+    pub label: Label,
+    pub row: Row,
+    pub mask: u16,
+}
+
 #[repr(C, packed)]
 #[derive(Clone, Copy, PartialEq, Eq, Debug)]
 pub struct Network {
@@ -84,6 +93,7 @@ unsafe impl Bytes for Label {}
 unsafe impl Bytes for Row {}
 unsafe impl Bytes for Record {}
 unsafe impl Bytes for Packet {}
+unsafe impl Bytes for Preview {}
 unsafe impl Bytes for Network {}
 
 pub const NO_LABEL: Label = Label::new(0, 0, 0);
@@ -92,6 +102,7 @@ pub const NO_ROW: Row = Row { count: 0, entries: [NO_SUCCESSOR; MAX_SUCCESSORS] 
 pub const NO_RECORD: Record = Record { number: 0, destination: 0, cached: UNASSIGNED, last_hop: 0, passed: 0 };
 pub const NO_PACKET: Packet =
     Packet { sender: 0, receiver: 0, kind: 0, source: 0, number: 0, destination: 0, label: NO_LABEL, reset: 0, mask: 0 };
+pub const NO_PREVIEW: Preview = Preview { label: NO_LABEL, row: NO_ROW, mask: 0 };
 
 pub const NO_NETWORK: Network = Network {
     n: 0,
