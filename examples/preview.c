@@ -1,0 +1,52 @@
+/*
+ * Looks at each packet before it lands: a route in a network of three stations, and the error that takes it down.
+ * Each line is a preview and, after the bar, what the delivery then told.
+ */
+#include "srp.h"
+
+#include <inttypes.h>
+#include <stdio.h>
+
+static uint8_t memory[SRP_LENGTH];
+
+/* The label and the successors after a request or a reply, or the destinations that an error empties the rows of. */
+static void show(uint64_t seen, const uint8_t *out)
+{
+    const uint8_t *label = out + SRP_PREVIEW_LABEL, *row = out + SRP_PREVIEW_ROW;
+
+    printf("%u, sends %u", SRP_ANSWER(seen), SRP_COUNT(seen));
+    if (SRP_ANSWER(seen) >= SRP_ERROR_NONE_REMOVED) {
+        printf(", emptied %#x", srp_read2(out + SRP_PREVIEW_MASK));
+        return;
+    }
+    printf(", label (%" PRIu64 ", %u/%u), successors", srp_read8(label + SRP_LABEL_S), srp_read4(label + SRP_LABEL_M),
+           srp_read4(label + SRP_LABEL_D));
+    for (unsigned e = 0; e < row[SRP_ROW_COUNT]; e++)
+        printf(" %u", row[SRP_ROW_ENTRIES + SRP_ENTRY_BYTES * e + SRP_ENTRY_STATION]);
+}
+
+/* Every packet in the air, the first one first. */
+static void deliver_all(void)
+{
+    while (SRP_COUNT(srp_air(memory, sizeof memory)) > 0) {
+        uint8_t out[SRP_PREVIEW_BYTES];
+        uint64_t seen = srp_preview(memory, sizeof memory, 0, out, sizeof out);
+        uint64_t done;
+
+        show(seen, out);
+        done = srp_deliver(memory, sizeof memory, 0);
+        printf(" | %u, sent %u\n", SRP_ANSWER(done), SRP_COUNT(done));
+    }
+}
+
+int main(void)
+{
+    srp_open(memory, sizeof memory, 3, 1);
+    srp_up(memory, sizeof memory, 0, 1);
+    srp_up(memory, sizeof memory, 1, 2);
+    srp_solicit(memory, sizeof memory, 2, 0);
+    deliver_all();
+    srp_down(memory, sizeof memory, 0, 1);
+    deliver_all();
+    return 0;
+}
