@@ -245,18 +245,6 @@ uint64_t srp_expire(uint8_t *memory, size_t length, size_t a, size_t t);
  */
 uint64_t srp_deliver(uint8_t *memory, size_t length, size_t k);
 
-/*
- * Preview: what srp_deliver of packet k would do, before it lands. Memory is only read. Refused, answer and
- * count: as of srp_deliver, and then 12 where out is shorter than SRP_PREVIEW_BYTES. Turned down, out is as it
- * was. Else the first SRP_PREVIEW_BYTES of out hold three parts, and the bytes past them are kept:
- *   SRP_PREVIEW_LABEL, SRP_PREVIEW_ROW: after a request or a reply (101 to 115) the label and the row that its
- *     receiver would then have for the packet's destination, shown as srp_label and srp_row show them; where
- *     the receiver is the destination, its own label and its empty row. Zeros after an error.
- *   SRP_PREVIEW_MASK: after an error (121 to 123) the mask of the destinations for which its receiver's row
- *     would be emptied, 0 for 121 and 122; 2 bytes, weight 2^t for destination t. 0 after a request or a reply.
- */
-uint64_t srp_preview(const uint8_t *memory, size_t length, size_t k, uint8_t *out, size_t out_length);
-
 /* Lose: packet k leaves the air. Refused: 1 (memory), 6. Answer 0, count 0. */
 uint64_t srp_lose(uint8_t *memory, size_t length, size_t k);
 
@@ -272,6 +260,19 @@ uint64_t srp_duplicate(uint8_t *memory, size_t length, size_t k);
  * count: the hops. 133 comes only of memory that no list of calls from srp_open leaves.
  */
 uint64_t srp_trace(const uint8_t *memory, size_t length, size_t a, size_t t);
+
+/*
+ * Preview: what srp_deliver of packet k would do, before it lands. Memory is only read. Refused, answer and
+ * count: as of srp_deliver, and then 12 where out is shorter than SRP_PREVIEW_BYTES. Turned down, out is as it
+ * was. Else the first SRP_PREVIEW_BYTES of out hold three parts, and the bytes past them are kept:
+ *   SRP_PREVIEW_LABEL, SRP_PREVIEW_ROW: after a request or a reply (101 to 115) the label and the row that its
+ *     receiver would then have for the packet's destination, shown as srp_label and srp_row show them; where
+ *     the receiver is the destination, its own label and its empty row. Zeros after an error.
+ *   SRP_PREVIEW_MASK: after an error (121 to 123) the mask of the destinations for which its receiver's row
+ *     would be emptied, 0 for 121 and 122; 2 bytes, weight 2^t for destination t. 0 after a request or a reply.
+ * examples/preview.c prints them.
+ */
+uint64_t srp_preview(const uint8_t *memory, size_t length, size_t k, uint8_t *out, size_t out_length);
 
 /* ---- Scripts -------------------------------------------------------------------------------- */
 

@@ -16,7 +16,7 @@ use Rattle.model.specs.Memory as model
 use Rattle.model.specs.Memory.{Network, names, zeroLabel, place, setLabels, setRows, setRecords, setActives, setAir, airLimit, memoryInRange}
 use Rattle.model.specs.Calls.{Deliver, Effect, limited, send, sending, errors, bit, errorOutcome, step}
 use Rattle.model.specs.Events.{usesOne, notEvent, callOf, eventOf}
-use Rattle.model.specs.Preview.{shows, numberShown, holdingShown, emptyingShown, effectShown, preview}
+use Rattle.model.specs.Preview.{Preview, shows, numberShown, holdingShown, emptyingShown, effectShown, preview}
 use Rattle.model.proofs.Refusals.{sending-7, sending-accepted}
 use Rattle.model.proofs.Rows.{mask-emptied}
 use Rattle.model.proofs.PreviewLaws.{preview-refused, preview-accepted}
@@ -35,10 +35,19 @@ use Rattle.decisions.specs.Refusing.{Seen, Tests}
 use Rattle.decisions.specs.Changing.{classOf, reaction, Reacts}
 use Rattle.steps.proofs.RunLaws.{Shape, shape-sized}
 use Rattle.steps.proofs.ArmLaws.{Tested, known}
-use Rattle.steps.proofs.DeliverLaws.{arrives, carried, rest-length, flying, reaction-does, gone-is, bereft, error-does}
+use Rattle.steps.proofs.DeliverLaws.{arrives, carried, rest-length, flying, reaction-does, gone-is, after-error, error-does}
 use Rattle.steps.proofs.ChangeLaws.{Looks, receiver}
 use Rattle.steps.proofs.CutLaws.{Lost}
 use Rattle.sandbox.specs.Shown.{unlessFull}
+
+-- 7, or all that is shown.
+pub shown-7 : {full : Bool} (air : ℕ) {r : Preview} (v : Preview) → full ≡ ltb airLimit air → full ≡ true → r ≡ numberShown 7 → r ≡ unlessFull air v
+unfolding unlessFull
+shown-7 air v is taken e = rw (sym is ∙ taken) e
+
+pub shown-whole : {full : Bool} (air : ℕ) (v : Preview) → full ≡ ltb airLimit air → full ≡ false → v ≡ unlessFull air v
+unfolding unlessFull
+shown-whole air v is left = rw (sym is ∙ left)
 
 -- Packet k of the memory, past the tests but that for 7, which gave r.
 abbrev pub Looked : Memory → (k r : ℕ) → Type 0
@@ -98,7 +107,7 @@ module _ {memory : Memory} {k r : ℕ} (h : Looked memory k r) where
           ≡ unlessFull (count - 1 + length sent) (shows (errorOutcome (losses .removed) (losses .emptied)) (length sent) zeroLabel [] (losses .emptied))
       unfolding effectShown emptyingShown sending send setAir setRows view
       error-is =
-          sending-shown (errorOutcome (losses .removed) (losses .emptied)) sent (bereft h zero refl is-error cuts lost) (error-does h zero refl is-error cuts lost)
+          sending-shown (errorOutcome (losses .removed) (losses .emptied)) sent (after-error h zero refl is-error cuts lost) (error-does h zero refl is-error cuts lost)
           ∙ rw (
             body-error p is-error,
             rest-length h zero refl,

@@ -33,6 +33,19 @@ use station::Holding;
 use station::sending::copies;
 use station::sending::error_scope;
 
+// What a preview reads of a network: packet k, what its receiver holds for it, the receiver's last request and its rows, the links, and
+// how many stations and packets there are.
+pub struct Gathered {
+    pub rows: [Row; 16],
+    pub held: Holding,
+    pub packet: Packet,
+    pub links: [bool; 256],
+    pub last: RequestNumber,
+    pub sought: u8,
+    pub n: u8,
+    pub count: u8,
+}
+
 // A row of no successors.
 fn empty_row() -> Row
     ensures { λ r. ⌜ rowOf r ≡ [] ⌝ }
@@ -79,20 +92,7 @@ fn shown(label: Label, row: Row, mask: u16, answer: u32, left: u8, sent: u8) -> 
     }
 }
 
-// What a preview reads of a network: packet k, what its receiver holds for it, the receiver's last request and its rows, the links, and
-// how many stations and packets there are.
-pub struct Gathered {
-    pub rows: [Row; 16],
-    pub held: Holding,
-    pub packet: Packet,
-    pub links: [bool; 256],
-    pub last: RequestNumber,
-    pub sought: u8,
-    pub n: u8,
-    pub count: u8,
-}
-
-// These of the memory.
+// This of the memory.
 fn gather(memory: Memory, k: u8) -> Gathered
     ensures { λ r. ⌜ r ≡ gatheredOf memory k ⌝ }
 {
@@ -186,7 +186,8 @@ pub fn preview_of(seen: Gathered, k: u8) -> Preview
     let holding = c.holding;
     let label = holding.label;
     let row = holding.row;
-    let sent = copies(c.scope, links, n, station, packet);
+    let scope = c.scope;
+    let sent = copies(scope, links, n, station, packet);
     shown(label, row, 0, c.answer, left, sent)
 }
 

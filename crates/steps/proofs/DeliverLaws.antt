@@ -98,10 +98,10 @@ module _ {memory : Memory} {packets : List Packet} {count kind a b r : ℕ} (h :
     removed-is = lost .removed-is ∙ rw (cuts .0, cuts .1, cuts .2, cuts .3, removes-never (names (p .receiver)) (p .sender) all (memory .n)) (or-false _)
 
     -- The network without those entries.
-    abbrev pub bereft : model.Network
-    bereft = setRows (takeOut (bit (p .mask)) (names (p .sender)) (p .receiver) (memory .n) all) flying
+    abbrev pub after-error : model.Network
+    after-error = setRows (takeOut (bit (p .mask)) (names (p .sender)) (p .receiver) (memory .n) all) flying
 
-    pub error-does : step (Deliver a) (view m) ≡ limited (sending (errorOutcome (losses .removed) (losses .emptied)) (errors flying (p .receiver) (losses .emptied)) bereft)
+    pub error-does : step (Deliver a) (view m) ≡ limited (sending (errorOutcome (losses .removed) (losses .emptied)) (errors flying (p .receiver) (losses .emptied)) after-error)
     unfolding receive onError view setAir
     error-does = delivered ∙ ap limited (rw (body-error p is-error, removed-is, gone-is))
 

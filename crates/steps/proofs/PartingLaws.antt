@@ -35,7 +35,7 @@ use Rattle.steps.proofs.PacketMoves as moves
 use Rattle.steps.proofs.PacketMoves.{exchanged}
 use Rattle.steps.proofs.RunLaws.{airing, Shape}
 use Rattle.steps.proofs.ArmLaws.{Tested, known, passes, happens-accepted, happens-7}
-use Rattle.steps.proofs.DeliverLaws.{arrives, carried, flying, deliver-7, deliver-accepted, others-none, bereft, error-does}
+use Rattle.steps.proofs.DeliverLaws.{arrives, carried, flying, deliver-7, deliver-accepted, others-none, after-error, error-does}
 use Rattle.steps.proofs.CutLaws.{Lost}
 
 module _ {memory : Memory} {packets : List Packet} {count kind a b r : ℕ} (h : Tested memory packets count kind a b r) (none : r ≡ 0) where
@@ -232,7 +232,7 @@ module _ {memory : Memory} {packets : List Packet} {count kind a b r : ℕ} (h :
     away = flying h zero e
 
     abbrev cut-away : Network
-    cut-away = bereft h zero e is-error (g .error-cuts e) (g .lost-is)
+    cut-away = after-error h zero e is-error (g .error-cuts e) (g .lost-is)
 
     rest-error : left ≡ away .air
     unfolding restOf setAir
