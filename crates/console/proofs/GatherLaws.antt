@@ -20,8 +20,8 @@ use Rattle.network.specs.View.{zeroNumber, zeroRecord, zeroPacket, view}
 use Rattle.layout.specs.Places.{numbersAt, soughtAt, activeAt, linksAt, labelsAt, rowsAt, recordsAt, airAt, packetsAt}
 use Rattle.layout.specs.Stored.{storedFlag, storedNumber, storedLabel, storedRow, storedRecord, storedPacket, storedAir, storedMemory, storedNetwork}
 use Rattle.layout.proofs.StoredLaws.{label-of-stored, sought-stored, active-stored}
-use Rattle.sandbox.specs.Gathered.{gatheredOf, InRange}
-use Rattle.sandbox.proofs.GatherLaws.{gathered-is}
+use Rattle.previews.specs.Gathered.{gatheredOf, InRange}
+use Rattle.previews.proofs.GatherLaws.{gathered-is}
 use Rattle.console.specs.Console.{notMemory}
 use Rattle.console.specs.Showing.{outOfRange}
 

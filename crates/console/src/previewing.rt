@@ -8,7 +8,7 @@ ghost use Rattle.model.specs.Memory.{place};
 ghost use Rattle.rows.specs.View.{rowOf};
 ghost use Rattle.layout.specs.Places.{layoutLength, rowsAt};
 ghost use Rattle.layout.specs.Stored.{storedRow, storedMemory};
-ghost use Rattle.sandbox.specs.Gathered.{gatheredOf};
+ghost use Rattle.previews.specs.Gathered.{gatheredOf};
 ghost use Rattle.console.specs.Previewing.{previewBytes, Previews};
 use crate::out_of_range;
 use crate::packed;
@@ -36,11 +36,11 @@ use layout::stations::read_flags;
 use network::AIR_LIMIT;
 use network::RequestNumber;
 use network::places::place;
+use previews::Gathered;
+use previews::preview_of;
 use rows::Row;
-use sandbox::narrow;
-use sandbox::previews::Gathered;
-use sandbox::previews::preview_of;
 use station::Holding;
+use validation::narrow;
 
 // A station's rows.
 fn read_rows(bytes: &[u8], station: u8) -> [Row; 16]

@@ -37,21 +37,9 @@ use label::label_of;
 use network::Memory;
 use network::Record;
 use network::RequestNumber;
-use rows::ROW_LIMIT;
-use rows::Row;
+use rows::empty_row;
 
-// What a table is filled with before it is read.
-fn blank_row() -> Row {
-    let none = label_of(0, 0, 0);
-    let labels = [none; ROW_LIMIT as usize];
-    let stations = [0; ROW_LIMIT as usize];
-    Row {
-        labels: labels,
-        stations: stations,
-        count: 0,
-    }
-}
-
+// What the table of records is filled with before it is read.
 fn blank_record() -> Record {
     Record {
         cached: label_of(0, 0, 0),
@@ -68,7 +56,7 @@ pub fn read(bytes: &[u8]) -> Memory
     requires { ⌜ layoutLength ≤ length (now bytes) ⌝ }
     ensures { λ r. ⌜ r ≡ storedMemory (now (bytes .entry)) ⌝ }
 {
-    let row = blank_row();
+    let row = empty_row();
     let record = blank_record();
     let mut s = [0; 256];
     let mut m = [0; 256];

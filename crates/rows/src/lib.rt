@@ -7,6 +7,7 @@ ghost use Rattle.model.specs.Memory.{names, without, under, put, withRoom, rowL
 ghost use Rattle.model.specs.Calls.{empties};
 ghost use Rattle.rows.specs.View.{successor, entryOf, rowOf, keeps};
 use label::Label;
+use label::label_of;
 
 // The most successors of a row.
 pub const ROW_LIMIT: u8 = 4;
@@ -16,6 +17,20 @@ pub struct Row {
     pub labels: [Label; ROW_LIMIT as usize],
     pub stations: [u8; ROW_LIMIT as usize],
     pub count: u8,
+}
+
+// A row of no successors.
+pub fn empty_row() -> Row
+    ensures { λ r. ⌜ rowOf r ≡ [] ⌝ }
+{
+    let none = label_of(0, 0, 0);
+    let labels = [none; ROW_LIMIT as usize];
+    let stations = [0; ROW_LIMIT as usize];
+    Row {
+        labels: labels,
+        stations: stations,
+        count: 0,
+    }
 }
 
 // The place of the first of so many entries that names j, or their number where none does.

@@ -1,5 +1,3 @@
 pub mod MadeLaws
 pub mod NarrowLaws
 pub mod RunLaws
-pub mod ShownLaws
-pub mod GatherLaws

@@ -1,4 +1,2 @@
 pub mod Made
 pub mod Telling
-pub mod Shown
-pub mod Gathered

@@ -4,17 +4,23 @@ ghost use mathlib.Core.Logic.{_≢_};
 ghost use mathlib.Core.Bool.{false};
 ghost use Rattle.model.specs.Calls.{Open, Up, Down, Solicit, GiveUp, Expire, Deliver, Lose, Duplicate, step, traced, trace};
 ghost use Rattle.model.specs.Events.{notEvent, callOf};
+ghost use Rattle.model.specs.Preview.{preview};
 ghost use Rattle.model.specs.Walks.{Reached};
 ghost use Rattle.network.specs.View.{view};
 ghost use Rattle.steps.specs.Called.{Called};
+ghost use Rattle.previews.specs.Shown.{previewOf};
 ghost use Rattle.sandbox.specs.Made.{MadeMemory, WalksEndIn};
-use crate::narrow;
 use network::Memory;
 use network::opening::fresh;
 use network::range::in_range;
+use previews::Preview;
+use previews::gather;
+use previews::preview_of;
+use previews::turned_down;
 use steps::Done;
 use steps::Traced;
 use steps::single::event_in_range;
+use validation::narrow;
 use validation::open_refused;
 
 // The call of a kind, 1 to 8. An operand that it does not use is 0.
@@ -95,6 +101,17 @@ pub fn deliver(memory: Memory, k: usize) -> Done
     ensures { λ r. ⌜ Called memory (step (Deliver k) (view memory)) r ⌝ }
 {
     call(memory, 6, k, 0)
+}
+
+// A preview of packet k: what Deliver would give. The result holds no memory.
+pub fn preview(memory: Memory, k: usize) -> Preview
+    ensures { λ r. ⌜ previewOf r ≡ preview (view memory) k ⌝ }
+{
+    if !in_range(memory) {
+        return turned_down(1);
+    }
+    let a = narrow(k);
+    preview_of(gather(memory, a), a)
 }
 
 // Lose: packet k is removed.

@@ -1,7 +1,7 @@
 // Tests of what a caller hands in that need no memory: n and start, stations, the number of events, and what is an event.
 ghost use mathlib.Core.Path.{_≡_};
 ghost use mathlib.Core.Bool.{_||_};
-ghost use Prim.Native.Nat.{_*_, _≤_};
+ghost use Prim.Native.Nat.{_*_, _≤_, min};
 ghost use lib.ListN.{length};
 ghost use lib.Dec.{leb, eqb};
 ghost use Rattle.model.specs.Memory.{sizeInRange};
@@ -26,6 +26,16 @@ pub fn open_refused(n: usize, start: u64) -> bool
     ensures { λ r. ⌜ r ≡ notOpening n start ⌝ }
 {
     !size_in_range(n) | (start == 0)
+}
+
+// A station or a place in the air that fits a byte: no network in range has a 255th.
+pub fn narrow(a: usize) -> u8
+    ensures { λ r. ⌜ r ≡ min a 255 ⌝ }
+{
+    if a < 255 {
+        return a as u8;
+    }
+    255
 }
 
 // 2: whether a is no station.

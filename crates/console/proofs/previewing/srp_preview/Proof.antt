@@ -6,9 +6,9 @@ use Rattle.base.proofs.Booleans.{was-true, was-false}
 use Rattle.base.specs.Results.{isRefusal}
 use Rattle.model.specs.Preview.{preview}
 use Rattle.layout.specs.Stored.{storedMemory, storedNetwork}
-use Rattle.sandbox.specs.Shown.{previewOf}
-use Rattle.sandbox.specs.Gathered.{InRange}
-use Rattle.sandbox.proofs.GatherLaws.{narrow-shown}
+use Rattle.previews.specs.Shown.{previewOf}
+use Rattle.previews.specs.Gathered.{InRange}
+use Rattle.previews.proofs.GatherLaws.{narrow-shown}
 use Rattle.console.specs.Showing.{outOfRange}
 use Rattle.console.proofs.ShowLaws.{known}
 use Rattle.console.proofs.GatherLaws.{stored-in-range}

@@ -20,8 +20,8 @@ Inv-loop bytes s₀ m₀ d₀ rows₀ records₀ i₀ s m d rows records i =
 abbrev μ-loop : tie.MeasureT-loop
 μ-loop bytes s₀ m₀ d₀ rows₀ records₀ i₀ s m d rows records i = 256 - i
 
-blank-row-requires : tie.Need-blank-row-requires Inv-loop μ-loop
-blank-row-requires c κs = search needs
+empty-row-requires : tie.Need-empty-row-requires Inv-loop μ-loop
+empty-row-requires c κs = search needs
 
 blank-record-requires : tie.Need-blank-record-requires Inv-loop μ-loop
 blank-record-requires c κs = search needs
@@ -150,7 +150,7 @@ read-spec =
     (tie.spec
     Inv-loop
     μ-loop
-    blank-row-requires
+    empty-row-requires
     blank-record-requires
     loop-holds
     mul-read-label

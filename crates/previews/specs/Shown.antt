@@ -6,7 +6,7 @@ use Rattle.model.specs.Memory.{airLimit}
 use Rattle.model.specs.Preview as model
 use Rattle.model.specs.Preview.{shows, numberShown}
 use Rattle.rows.specs.View.{rowOf}
-use Rattle.sandbox.specs.declared.Preview.{Preview}
+use Rattle.previews.specs.declared.Preview.{Preview}
 
 abbrev pub previewOf : Preview → model.Preview
 previewOf r = shows (r .answer) (r .sent) (r .label) (rowOf (r .row)) (r .mask)

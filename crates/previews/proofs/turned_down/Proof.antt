@@ -1,8 +1,8 @@
--- `previews::turned_down` meets its contract.
+-- `turned_down` meets its contract.
 use borrow.Author.Needs.{needs}
 use Rattle.model.specs.Memory.{zeroLabel}
-use Rattle.sandbox.proofs.previews.turned_down.Statement.{statement}
-use Rattle.sandbox.proofs.previews.turned_down.Tie as tie
+use Rattle.previews.proofs.turned_down.Statement.{statement}
+use Rattle.previews.proofs.turned_down.Tie as tie
 
 label-of-requires : tie.Need-label-of-requires
 label-of-requires c κs = search needs

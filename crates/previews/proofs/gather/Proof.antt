@@ -1,4 +1,4 @@
--- `previews::gather` meets its contract: each part read at its place.
+-- `gather` meets its contract: each part read at its place.
 use Prim.Native.Nat.{ℕ, _-_, _≤_, _<_}
 use mathlib.Core.Path.{_≡_, refl, ap, _∙_}
 use lib.ListN.{getD}
@@ -8,9 +8,9 @@ use Rattle.base.proofs.Loops.{Filled, filled-none, filled-more, filled-all}
 use Rattle.model.specs.Memory.{place}
 use Rattle.rows.specs.View.{zeroRow}
 use Rattle.network.specs.View.{labelOf}
-use Rattle.sandbox.proofs.GatherLaws.{gathered-is}
-use Rattle.sandbox.proofs.previews.gather.Statement.{statement}
-use Rattle.sandbox.proofs.previews.gather.Tie as tie
+use Rattle.previews.proofs.GatherLaws.{gathered-is}
+use Rattle.previews.proofs.gather.Statement.{statement}
+use Rattle.previews.proofs.gather.Tie as tie
 
 -- The rows read so far.
 abbrev Inv-loop : tie.InvT-loop

@@ -35,10 +35,10 @@ use Rattle.steps.proofs.ArmLaws.{known}
 use Rattle.steps.proofs.DeliverLaws.{arrives, carried, flying}
 use Rattle.steps.proofs.ChangeLaws.{Looks, arrived}
 use Rattle.steps.proofs.CutLaws.{Lost}
-use Rattle.sandbox.specs.declared.previews.Gathered.{Gathered}
-use Rattle.sandbox.specs.Shown.{unlessFull}
-use Rattle.sandbox.specs.Gathered.{heldFor, gatheredOf, InRange}
-use Rattle.sandbox.proofs.ShownLaws.{Looked, looked, refused-shown, error-shown, changes, reaction-shown}
+use Rattle.previews.specs.declared.Gathered.{Gathered}
+use Rattle.previews.specs.Shown.{unlessFull}
+use Rattle.previews.specs.Gathered.{heldFor, gatheredOf, InRange}
+use Rattle.previews.proofs.ShownLaws.{Looked, looked, refused-shown, error-shown, changes, reaction-shown}
 
 -- A number from 255 on is previewed as 255.
 pub narrow-shown : {m : Memory} → InRange m → (k : ℕ) {a : ℕ} → a ≡ min k 255 → preview (view m) a ≡ preview (view m) k

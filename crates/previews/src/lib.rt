@@ -1,15 +1,12 @@
 // A preview of a packet (02, F-1): what Deliver would give, by the decisions of Deliver on the values that it gathers. Nothing is written.
 ghost use mathlib.Core.Path.{_≡_};
-ghost use mathlib.Core.List.{[]};
 ghost use Prim.Native.Nat.{_+_, _^_, _<_};
 ghost use Rattle.model.specs.Preview.{shows, numberShown, preview};
 ghost use Rattle.rows.specs.View.{rowOf};
 ghost use Rattle.network.specs.View.{view};
 ghost use Rattle.network.specs.declared.Memory.{Memory};
-ghost use Rattle.sandbox.specs.Shown.{previewOf, unlessFull};
-ghost use Rattle.sandbox.specs.Gathered.{gatheredOf, InRange};
-use crate::Preview;
-use crate::narrow;
+ghost use Rattle.previews.specs.Shown.{previewOf, unlessFull};
+ghost use Rattle.previews.specs.Gathered.{gatheredOf, InRange};
 use decisions::changing::change_of;
 use decisions::changing::spot_of;
 use decisions::cutting::Losses;
@@ -26,12 +23,21 @@ use network::Packet;
 use network::RequestNumber;
 use network::packets::error;
 use network::places::place;
-use network::range::in_range;
-use rows::ROW_LIMIT;
 use rows::Row;
+use rows::empty_row;
 use station::Holding;
 use station::sending::copies;
 use station::sending::error_scope;
+
+// What a delivery would give: its answer, how many packets it sends, the label and row that the receiver then has for the packet's
+// destination; of an error instead the mask of the rows that it empties.
+pub struct Preview {
+    pub label: Label,
+    pub row: Row,
+    pub answer: u32,
+    pub mask: u16,
+    pub sent: u8,
+}
 
 // What a preview reads of a network: packet k, what its receiver holds for it, the receiver's last request and its rows, the links, and
 // how many stations and packets there are.
@@ -46,22 +52,8 @@ pub struct Gathered {
     pub count: u8,
 }
 
-// A row of no successors.
-fn empty_row() -> Row
-    ensures { λ r. ⌜ rowOf r ≡ [] ⌝ }
-{
-    let none = label_of(0, 0, 0);
-    let labels = [none; ROW_LIMIT as usize];
-    let stations = [0; ROW_LIMIT as usize];
-    Row {
-        labels: labels,
-        stations: stations,
-        count: 0,
-    }
-}
-
 // A number, and nothing else.
-fn turned_down(number: u32) -> Preview
+pub fn turned_down(number: u32) -> Preview
     ensures { λ r. ⌜ previewOf r ≡ numberShown number ⌝ }
 {
     let label = label_of(0, 0, 0);
@@ -93,7 +85,7 @@ fn shown(label: Label, row: Row, mask: u16, answer: u32, left: u8, sent: u8) -> 
 }
 
 // This of the memory.
-fn gather(memory: Memory, k: u8) -> Gathered
+pub fn gather(memory: Memory, k: u8) -> Gathered
     ensures { λ r. ⌜ r ≡ gatheredOf memory k ⌝ }
 {
     let n = memory.n;
@@ -189,15 +181,4 @@ pub fn preview_of(seen: Gathered, k: u8) -> Preview
     let scope = c.scope;
     let sent = copies(scope, links, n, station, packet);
     shown(label, row, 0, c.answer, left, sent)
-}
-
-// A preview of packet k. The result holds no memory.
-pub fn preview(memory: Memory, k: usize) -> Preview
-    ensures { λ r. ⌜ previewOf r ≡ preview (view memory) k ⌝ }
-{
-    if !in_range(memory) {
-        return turned_down(1);
-    }
-    let a = narrow(k);
-    preview_of(gather(memory, a), a)
 }

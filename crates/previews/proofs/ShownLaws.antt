@@ -38,7 +38,7 @@ use Rattle.steps.proofs.ArmLaws.{Tested, known}
 use Rattle.steps.proofs.DeliverLaws.{arrives, carried, rest-length, flying, reaction-does, gone-is, after-error, error-does}
 use Rattle.steps.proofs.ChangeLaws.{Looks, receiver}
 use Rattle.steps.proofs.CutLaws.{Lost}
-use Rattle.sandbox.specs.Shown.{unlessFull}
+use Rattle.previews.specs.Shown.{unlessFull}
 
 -- 7, or all that is shown.
 pub shown-7 : {full : Bool} (air : ℕ) {r : Preview} (v : Preview) → full ≡ ltb airLimit air → full ≡ true → r ≡ numberShown 7 → r ≡ unlessFull air v

@@ -1,4 +1,4 @@
--- `previews::preview_of` meets its contract: turned down, an error, or a request or a reply.
+-- `preview_of` meets its contract: turned down, an error, or a request or a reply.
 use Prim.Native.Nat.{ℕ, _-_, _≤_, _<_}
 use mathlib.Core.Path.{_≡_, refl, sym, ap, subst, _∙_}
 use mathlib.Core.List.{map}
@@ -10,10 +10,10 @@ use Rattle.rows.specs.View.{zeroRow, rowOf}
 use Rattle.network.specs.declared.Memory.{Memory}
 use Rattle.station.proofs.Laws.{sent-few}
 use Rattle.steps.proofs.CutLaws.{Lost, lost-none, lost-below, lost-alone}
-use Rattle.sandbox.specs.Gathered.{gatheredOf, InRange}
-use Rattle.sandbox.proofs.GatherLaws.{Lands, gathered-refused, lands, rows-known, gathered-error, gathered-ready, gathered-reaction}
-use Rattle.sandbox.proofs.previews.preview_of.Statement.{statement}
-use Rattle.sandbox.proofs.previews.preview_of.Tie as tie
+use Rattle.previews.specs.Gathered.{gatheredOf, InRange}
+use Rattle.previews.proofs.GatherLaws.{Lands, gathered-refused, lands, rows-known, gathered-error, gathered-ready, gathered-reaction}
+use Rattle.previews.proofs.preview_of.Statement.{statement}
+use Rattle.previews.proofs.preview_of.Tie as tie
 
 -- The rows looked at so far.
 abbrev Inv-loop : tie.InvT-loop

@@ -1,8 +1,8 @@
--- `previews::shown` meets its contract: 7, or what it was given.
+-- `shown` meets its contract: 7, or what it was given.
 use borrow.Author.Needs.{needs}
-use Rattle.sandbox.proofs.ShownLaws.{shown-7, shown-whole}
-use Rattle.sandbox.proofs.previews.shown.Statement.{statement}
-use Rattle.sandbox.proofs.previews.shown.Tie as tie
+use Rattle.previews.proofs.ShownLaws.{shown-7, shown-whole}
+use Rattle.previews.proofs.shown.Statement.{statement}
+use Rattle.previews.proofs.shown.Tie as tie
 
 full-requires : tie.Need-full-requires
 full-requires c κs = search needs

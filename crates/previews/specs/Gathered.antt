@@ -10,7 +10,7 @@ use Rattle.network.specs.declared.Packet.{Packet}
 use Rattle.network.specs.declared.Memory.{Memory}
 use Rattle.network.specs.View.{zeroNumber, zeroRecord, zeroPacket, labelOf, view, Lengths}
 use Rattle.station.specs.declared.Holding.{Holding}
-use Rattle.sandbox.specs.declared.previews.Gathered.{Gathered}
+use Rattle.previews.specs.declared.Gathered.{Gathered}
 
 -- What the receiver of a packet holds for it.
 abbrev pub heldFor : Memory → Packet → Holding

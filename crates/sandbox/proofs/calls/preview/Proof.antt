@@ -1,13 +1,13 @@
--- `previews::preview` meets its contract: refused with 1, or the preview of a narrowed number.
+-- `calls::preview` meets its contract: refused with 1, or the preview of a narrowed number.
 use mathlib.Core.Path.{sym, _∙_}
 use borrow.Author.Needs.{needs}
 use Rattle.base.proofs.Booleans.{not-was-true, not-was-false}
 use Rattle.model.proofs.PreviewLaws.{preview-out-of-range}
 use Rattle.network.proofs.Bounds.{memory-lengths}
-use Rattle.sandbox.specs.Gathered.{InRange}
-use Rattle.sandbox.proofs.GatherLaws.{narrow-shown}
-use Rattle.sandbox.proofs.previews.preview.Statement.{statement}
-use Rattle.sandbox.proofs.previews.preview.Tie as tie
+use Rattle.previews.specs.Gathered.{InRange}
+use Rattle.previews.proofs.GatherLaws.{narrow-shown}
+use Rattle.sandbox.proofs.calls.preview.Statement.{statement}
+use Rattle.sandbox.proofs.calls.preview.Tie as tie
 
 abbrev start : tie.After-gather → tie.Start
 start c = c .before .before .before .before

@@ -1,0 +1,2 @@
+pub mod ShownLaws
+pub mod GatherLaws

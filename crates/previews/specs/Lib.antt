@@ -1,0 +1,2 @@
+pub mod Shown
+pub mod Gathered
