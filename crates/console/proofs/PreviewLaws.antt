@@ -7,7 +7,7 @@ use lib.ListN.{length, length-append}
 use lib.Seq.{sets}
 use native.Mathlib.Omega.{arith}
 use borrow.Author.Tests.{lt-ltb, le-ltb}
-use Rattle.base.specs.Results.{refused, mapped, _andThen_, isRefusal}
+use Rattle.base.specs.Results.{refused, accepted, mapped, _andThen_, isRefusal}
 use Rattle.base.proofs.Results.{refuse-holds, refuse-passes}
 use Rattle.codec.specs.Bytes.{littleEndian, putInto}
 use Rattle.codec.proofs.ByteLaws.{sets-over, little-length}
@@ -19,7 +19,7 @@ use Rattle.layout.specs.Stored.{storedNetwork}
 use Rattle.layout.specs.Written.{labelBytes, rowBytes}
 use Rattle.layout.proofs.EntryLaws.{label-wide, row-wide}
 use Rattle.console.specs.Packed.{packed}
-use Rattle.console.specs.Showing.{outOfRange}
+use Rattle.console.specs.Showing.{outOfRange, shownIn}
 use Rattle.console.specs.Previewing.{previewBytes, bytesOf, roomFor, previewingIn, tellingPreview, Previews}
 use Rattle.console.proofs.ShowLaws.{showing-1, showing-net}
 
@@ -55,12 +55,12 @@ module _ (bytes : List ℕ) (k : ℕ) (out : List ℕ) where
     wide = preview-wide (v .label) (v .row) (v .mask)
 
     pub preview-12 : isRefusal (v .answer) ≡ false → length out < 87 → Previews bytes k out 12 out
-    unfolding roomFor
-    preview-12 r l = ends-refused 12 (shown r ∙ refuse-holds 12 _ _ (lt-ltb (length out) (length (bytesOf v)) (omega (arith, l, wide))))
+    unfolding roomFor shownIn mapped
+    preview-12 r l = ends-refused 12 (shown r ∙ ap (mapped (λ bytes. v)) (refuse-holds 12 _ (accepted (bytesOf v)) (lt-ltb (length out) (length (bytesOf v)) (omega (arith, l, wide)))))
 
     pub preview-shown : isRefusal (v .answer) ≡ false → 87 ≤ length out → (r : ℕ) (out′ : List ℕ) → r ≡ packed (v .answer) (v .sent) → out′ ≡ sets out 0 (bytesOf v)
         → Previews bytes k out r out′
-    unfolding Previews tellingPreview mapped putInto roomFor
+    unfolding Previews tellingPreview mapped putInto roomFor shownIn
     preview-shown a l r out′ e f =
         let room : length (bytesOf v) ≤ length out = omega (arith, l, wide) in
-        rw (shown a ∙ refuse-passes 12 _ _ (le-ltb (length out) (length (bytesOf v)) room)) (e, f ∙ sets-over out (bytesOf v) room)
+        rw (shown a ∙ ap (mapped (λ bytes. v)) (refuse-passes 12 _ (accepted (bytesOf v)) (le-ltb (length out) (length (bytesOf v)) room))) (e, f ∙ sets-over out (bytesOf v) room)

@@ -3,15 +3,14 @@ use Prim.Native.Nat.{ℕ}
 use mathlib.Core.Path.{_≡_}
 use mathlib.Core.List.{List, _++_}
 use lib.ListN.{length}
-use lib.Dec.{ltb}
-use Rattle.base.specs.Results.{Result, refused, accepted, refuse_when_otherwise_, mapped, _andThen_}
+use Rattle.base.specs.Results.{Result, refused, accepted, mapped, _andThen_}
 use Rattle.codec.specs.Bytes.{littleEndian, putInto}
 use Rattle.label.specs.declared.Label.{Label}
 use Rattle.model.specs.Memory.{Row}
 use Rattle.model.specs.Preview.{Preview, previewing}
 use Rattle.layout.specs.Written.{labelBytes, rowBytes}
 use Rattle.console.specs.Packed.{packed}
-use Rattle.console.specs.Showing.{showing}
+use Rattle.console.specs.Showing.{showing, shownIn}
 
 -- The label (16 bytes), the row (69) and the mask (2), as the layout has them.
 unfoldable pub previewBytes : Label → Row → (mask : ℕ) → List ℕ
@@ -22,9 +21,7 @@ bytesOf v = previewBytes (v .label) (v .row) (v .mask)
 
 -- A preview of packet k of the network that stands in the bytes, for an array of so many places: 12 where they are too few, tested last.
 unfoldable pub roomFor : (room : ℕ) → Preview → Result Preview
-roomFor room v =
-    refuse 12 when ltb room (length (bytesOf v)) otherwise
-    accepted v
+roomFor room v = mapped (λ bytes. v) (shownIn room (bytesOf v))
 
 unfoldable pub previewingIn : List ℕ → (k room : ℕ) → Result Preview
 previewingIn bytes k room = showing bytes (λ net. previewing net k) andThen roomFor room

@@ -84,7 +84,7 @@ fn shown(label: Label, row: Row, mask: u16, answer: u32, left: u8, sent: u8) -> 
     }
 }
 
-// This of the memory.
+// It is gathered of a memory by value.
 pub fn gather(memory: Memory, k: u8) -> Gathered
     ensures { λ r. ⌜ r ≡ gatheredOf memory k ⌝ }
 {
