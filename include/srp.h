@@ -369,6 +369,22 @@ uint64_t srp_station(const uint8_t *memory, size_t length, size_t i, uint8_t *ou
 /* Packet k, SRP_PACKET_BYTES. Refused: 1 (memory), 6 if k is not below the packets in the air, 12. */
 uint64_t srp_packet(const uint8_t *memory, size_t length, size_t k, uint8_t *out, size_t out_length);
 
+/* ---- Searching a row ------------------------------------------------------------------------ */
+
+/* What srp_find counts: the place of the first entry that names the station, and the places looked at. */
+#define SRP_FOUND_AT(r) (SRP_COUNT(r) & 0xffffu)
+#define SRP_LOOKED_AT(r) (SRP_COUNT(r) >> 16)
+
+/*
+ * Find: where a station stands in a row, as srp_row and srp_preview show one. The search ends at the first entry
+ * that names the station. SRP_FOUND_AT is that entry's place, from 0, and SRP_LOOKED_AT one more; both are the
+ * row's count where no entry names it. Only the count and the stations of the row are read: it may be of no
+ * network, and name a station twice.
+ * Refused: 1 where length is below SRP_ROW_BYTES or the row's count is over SRP_MAX_SUCCESSORS, 2 where station is
+ * not below SRP_MAX_STATIONS. Answer 0; count: the place + 65536 times the places looked at.
+ */
+uint64_t srp_find(const uint8_t *row, size_t length, size_t station);
+
 #ifdef __cplusplus
 }
 #endif

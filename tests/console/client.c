@@ -1,6 +1,6 @@
 /*
- * A client in C of the entry points in include/srp.h. It holds them to 01 and to docs/LAYOUT.md: 01's example, previews, New label,
- * scripts, refusals, memory that was damaged, and the places that are free.
+ * A client in C of the entry points in include/srp.h. It holds them to 01 and to docs/LAYOUT.md: 01's example, the search of a row,
+ * previews, New label, scripts, refusals, memory that was damaged, and the places that are free.
  *
  *     client [STEP]     damages every STEP-th byte of the memory in turn; 1 if not given
  *
@@ -648,6 +648,59 @@ static void test_square(void)
     CHECK_EQ(d->memory[SRP_PACKET_AT(1) + SRP_PACKET_KIND], SRP_REQUEST);
     CHECK_EQ(d->memory[SRP_PACKET_AT(4) + SRP_PACKET_KIND], SRP_REPLY);
     free(d);
+}
+
+/* What srp_find gives of a station that it found at a place, or did not find. */
+static uint64_t found(unsigned place)
+{
+    return result(SRP_DONE, place + 65536 * (place + 1));
+}
+
+static uint64_t not_found(unsigned count)
+{
+    return result(SRP_DONE, count + 65536 * count);
+}
+
+/* Station 3's row for 0 in the square has 1 and then 2. */
+static void test_find_shown(void)
+{
+    struct desk *d = square_after(17);
+
+    CHECK_EQ(srp_row(d->memory, LENT, 3, 0, d->out, OUT), result(SRP_DONE, SRP_ROW_BYTES));
+    CHECK_EQ(srp_find(d->out, SRP_ROW_BYTES, 1), found(0));
+    CHECK_EQ(srp_find(d->out, SRP_ROW_BYTES, 2), found(1));
+    CHECK_EQ(SRP_FOUND_AT(srp_find(d->out, SRP_ROW_BYTES, 2)), 1);
+    CHECK_EQ(SRP_LOOKED_AT(srp_find(d->out, SRP_ROW_BYTES, 2)), 2);
+    CHECK_EQ(srp_find(d->out, OUT, 0), not_found(2)); /* the entries past the count are zeros and are not looked at */
+    CHECK_EQ(srp_find(d->out, SRP_ROW_BYTES, 15), not_found(2));
+    free(d);
+}
+
+/* A row that names a station twice, one entry after the other left out; and what is no row or no station. */
+static void test_find(void)
+{
+    static const uint8_t stations[SRP_MAX_SUCCESSORS] = {5, 9, 5, 15};
+    uint8_t *row = allocated(SRP_ROW_BYTES); /* no byte more, so that a read past it is seen */
+
+    memset(row, 0xa5, SRP_ROW_BYTES);
+    for (unsigned e = 0; e < SRP_MAX_SUCCESSORS; e++)
+        row[SRP_ROW_ENTRIES + SRP_ENTRY_BYTES * e + SRP_ENTRY_STATION] = stations[e];
+    for (unsigned count = 0; count <= SRP_MAX_SUCCESSORS; count++) {
+        row[SRP_ROW_COUNT] = (uint8_t)count;
+        CHECK_EQ(srp_find(row, SRP_ROW_BYTES, 5), count > 0 ? found(0) : not_found(count));
+        CHECK_EQ(srp_find(row, SRP_ROW_BYTES, 9), count > 1 ? found(1) : not_found(count));
+        CHECK_EQ(srp_find(row, SRP_ROW_BYTES, 15), count > 3 ? found(3) : not_found(count));
+        CHECK_EQ(srp_find(row, SRP_ROW_BYTES, 0), not_found(count));
+        CHECK_EQ(srp_find(row, SRP_ROW_BYTES, SRP_MAX_STATIONS), SRP_NO_STATION);
+        CHECK_EQ(srp_find(row, SRP_ROW_BYTES, 5 + 256), SRP_NO_STATION);
+        CHECK_EQ(srp_find(row, SRP_ROW_BYTES - 1, SIZE_MAX), SRP_OUT_OF_RANGE);
+        CHECK_EQ(srp_find(row, 0, 5), SRP_OUT_OF_RANGE);
+    }
+    for (unsigned count = SRP_MAX_SUCCESSORS + 1; count < 256; count++) {
+        row[SRP_ROW_COUNT] = (uint8_t)count;
+        CHECK_EQ(srp_find(row, SRP_ROW_BYTES, 5), SRP_OUT_OF_RANGE);
+    }
+    free(row);
 }
 
 /* Give up, Expire, Duplicate, and an error that is delivered. */
@@ -1897,6 +1950,8 @@ int main(int argc, char **argv)
     test_example();
     test_exact_slice();
     test_square();
+    test_find_shown();
+    test_find();
     test_other_calls();
     test_hand_written();
     test_other_successors();

@@ -1,15 +1,15 @@
 -- What a loop over 0 .. c knows: laws of tests and lists that grow by one number at a time.
-use Prim.Native.Nat.{ℕ, zero, suc, _+_, _*_, _/_, _%_, _≤_, _<_}
+use Prim.Native.Nat.{ℕ, zero, suc, _+_, _-_, _*_, _/_, _%_, _≤_, _<_}
 use mathlib.Core.Path.{_≡_, refl, sym, ap, ap₂, _∙_}
 use mathlib.Core.Logic.{_≢_}
 use mathlib.Core.Bool.{Bool, true, false, not, _&&_, _||_, and-true, and-assoc}
-use mathlib.Core.List.{List, [], _∷_, _++_, map, append-nil, map-append, append-assoc}
-use lib.ListN.{length, getD, set, take, drop, replicate, take-append-drop, length-append, length-drop, length-set, length-replicate, length-map, getD-replicate, List·getD-append, List·getD-eq-default, List·getD-map}
-use lib.Seq.{ext-getD, getD-at, getD-take, getD-set-same, getD-set-other, length-take-le, take-at, take-suc-set, take-all, slice-empty}
+use mathlib.Core.List.{List, [], _∷_, _++_, map, tail, append-nil, map-append, append-assoc}
+use lib.ListN.{length, getD, set, take, drop, replicate, take-append-drop, length-append, length-take, length-drop, length-set, length-replicate, length-map, getD-replicate, List·getD-append, List·getD-eq-default, List·getD-map}
+use lib.Seq.{ext-getD, getD-at, getD-take, getD-set-same, getD-set-other, length-take-le, take-suc-set, take-all, slice-empty}
 use lib.Dec.{ltb, leb, eqb}
 use native.Mathlib.Numerals.{add-one}
 use native.Mathlib.Omega.{arith}
-use borrow.Author.Tests.{ltb-true, ltb-false, eqb-true, eqb-false, lt-leb, leb-false, not-true}
+use borrow.Author.Tests.{lt-ltb, le-ltb, ltb-true, ltb-false, eqb-true, eqb-false, lt-leb, leb-false, not-true}
 use Rattle.base.specs.Choice.{if_then_else_}
 use Rattle.base.specs.Lists.{allBelow, below, allIn, someIn, keep, isEmpty, tabulate, indexOf, distinct, removeAt, removed}
 use Rattle.base.proofs.Booleans.{clash, passes, iff, choose, Trichotomy, less, equal, more, trichotomy}
@@ -236,25 +236,67 @@ module _ {A : Type 0} where
   removed-length (suc k) zero (x ∷ l) h g = absurd (omega arith)
   removed-length (suc k) (suc last) (x ∷ l) h g = ap suc (removed-length k last l (omega arith) (omega arith))
 
-  removed-first : (k last : ℕ) (l : List A) → k ≤ last → last < length l → take last (removed k last l) ≡ removeAt k (take (suc last) l)
+  -- Then each place before k is as it was, and each from k on has what stood after it.
+  removed-before : (k last : ℕ) (l : List A) (d : A) → k ≤ last → last < length l → (i : ℕ) → i < k → getD (removed k last l) i d ≡ getD l i d
   unfolding removed
-  removed-first k last [] h g = absurd (omega arith)
-  removed-first zero last (x ∷ l) h g = take-at (take last l) (drop last (x ∷ l)) last (length-take-le last l (omega arith))
-  removed-first (suc k) zero (x ∷ l) h g = absurd (omega arith)
-  removed-first (suc k) (suc last) (x ∷ l) h g = ap (λ (r : List A). x ∷ r) (removed-first k last l (omega arith) (omega arith))
+  removed-before k last [] d h g i m = absurd (omega arith)
+  removed-before zero last (x ∷ l) d h g i m = absurd (omega arith)
+  removed-before (suc k) zero (x ∷ l) d h g i m = absurd (omega arith)
+  removed-before (suc k) (suc last) (x ∷ l) d h g zero m = refl
+  removed-before (suc k) (suc last) (x ∷ l) d h g (suc i) m = removed-before k last l d (omega arith) (omega arith) i (omega arith)
 
-map-removeAt : {A B : Type 0} (f : A → B) (k : ℕ) (l : List A) → map f (removeAt k l) ≡ removeAt k (map f l)
-map-removeAt f zero [] = refl
-map-removeAt f (suc k) [] = refl
-map-removeAt f zero (x ∷ l) = refl
-map-removeAt {A} {B} f (suc k) (x ∷ l) = ap (λ (r : List B). f x ∷ r) (map-removeAt f k l)
+  removed-after : (k last : ℕ) (l : List A) (d : A) → k ≤ last → last < length l → (i : ℕ) → k ≤ i → i < last → getD (removed k last l) i d ≡ getD l (suc i) d
+  unfolding removed
+  removed-after k last [] d h g i m n = absurd (omega arith)
+  removed-after zero last (x ∷ l) d h g i m n = List·getD-append (take last l) _ d i (omega (arith, length-take-le last l (omega arith))) ∙ getD-take last l i d n
+  removed-after (suc k) zero (x ∷ l) d h g i m n = absurd (omega arith)
+  removed-after (suc k) (suc last) (x ∷ l) d h g zero m n = absurd (omega arith)
+  removed-after (suc k) (suc last) (x ∷ l) d h g (suc i) m n = removed-after k last l d (omega arith) (omega arith) i (omega arith) (omega arith)
+
+  pub removed-at : (k last : ℕ) (l : List A) (d : A) → k ≤ last → last < length l → (i : ℕ) → i < last → getD (removed k last l) i d ≡ getD l (if ltb i k then i else suc i) d
+  removed-at k last l d h g i m = choose (λ (x : ℕ). getD (removed k last l) i d ≡ getD l x d) (ltb i k)
+      (λ e. removed-before k last l d h g i (ltb-true i k e)) (λ e. removed-after k last l d h g i (ltb-false i k e) m)
+
+  pub length-removeAt : (k : ℕ) (l : List A) → k < length l → length (removeAt k l) ≡ length l - 1
+  length-removeAt k l h = length-append (take k l) (drop (suc k) l) ∙ rw (length-take k l, length-drop (suc k) l) (omega arith)
+
+  pub removeAt-first : (l : List A) → removeAt 0 l ≡ tail l
+  removeAt-first [] = refl
+  removeAt-first (x ∷ l) = refl
+
+  -- Element k removed from a list with one more, before its last element and at it.
+  removeAt-within : (k : ℕ) (l m : List A) → k < length l → removeAt k (l ++ m) ≡ removeAt k l ++ m
+  removeAt-within k [] m h = absurd (omega arith)
+  removeAt-within zero (x ∷ l) m h = refl
+  removeAt-within (suc k) (x ∷ l) m h = ap (λ (r : List A). x ∷ r) (removeAt-within k l m (omega arith))
+
+  removeAt-last : (k : ℕ) (l : List A) (x : A) → length l ≡ k → removeAt k (l ++ (x ∷ [])) ≡ l
+  removeAt-last zero [] x h = refl
+  removeAt-last (suc k) [] x h = absurd (omega arith)
+  removeAt-last zero (y ∷ l) x h = absurd (omega arith)
+  removeAt-last (suc k) (y ∷ l) x h = ap (λ (r : List A). y ∷ r) (removeAt-last k l x (omega arith))
+
+  -- The values at all places but k.
+  pub tabulate-removeAt : (c k : ℕ) (f : ℕ → A) → k ≤ c → tabulate c (λ i. f (if ltb i k then i else suc i)) ≡ removeAt k (tabulate (suc c) f)
+  unfolding tabulate
+  tabulate-removeAt zero zero f h = refl
+  tabulate-removeAt zero (suc k) f h = absurd (omega arith)
+  tabulate-removeAt (suc c) k f h = go (trichotomy k (suc c)) (λ l. tabulate-removeAt c k f l)
+    where
+      go : Trichotomy k (suc c) → (k ≤ c → tabulate c (λ i. f (if ltb i k then i else suc i)) ≡ removeAt k (tabulate (suc c) f))
+          → tabulate (suc c) (λ i. f (if ltb i k then i else suc i)) ≡ removeAt k (tabulate (suc c) f ++ (f (suc c) ∷ []))
+      go (less l) ih =
+          rw (ih (omega arith), le-ltb c k (omega arith)) (sym (removeAt-within k (tabulate (suc c) f) (f (suc c) ∷ []) (omega (arith, tabulate-length (suc c) f))))
+      go (equal q) ih =
+          tabulate-same (suc c) _ f (λ i m. rw (lt-ltb i k (omega arith)))
+          ∙ sym (removeAt-last k (tabulate (suc c) f) (f (suc c)) (tabulate-length (suc c) f ∙ sym q))
+      go (more l) ih = absurd (omega arith)
 
 -- Then the first `last` elements are the list without element k.
 pub tabulate-removed : {A B : Type 0} (f : A → B) (k last : ℕ) (d : A) (l : List A) → k ≤ last → last < length l
     → tabulate last (λ i. f (getD (removed k last l) i d)) ≡ removeAt k (tabulate (suc last) (λ i. f (getD l i d)))
-tabulate-removed {A} {B} f k last d l h g =
-    tabulate-take f (removed k last l) last d (omega (arith, removed-length k last l h g)) ∙ ap (map f) (removed-first k last l h g) ∙ map-removeAt f k (take (suc last) l)
-    ∙ ap (removeAt k) (sym (tabulate-take f l (suc last) d g))
+tabulate-removed f k last d l h g =
+    tabulate-same last _ _ (λ i m. ap f (removed-at k last l d h g i m)) ∙ tabulate-removeAt last k (λ i. f (getD l i d)) h
 
 -- Tests of the values, and what is kept of them.
 module _ {A : Type 0} (t : A → Bool) where
@@ -342,7 +384,7 @@ tabulate-empty c f = empty-length (tabulate c f) ∙ ap (λ k. eqb k 0) (tabulat
 
 -- No number stands twice among the values where none stands among those before it.
 module _ {A : Type 0} (number : A → ℕ) where
-  some-map : (j : ℕ) (l : List A) → someIn (eqb j) (map number l) ≡ someIn (λ x. eqb j (number x)) l
+  pub some-map : (j : ℕ) (l : List A) → someIn (eqb j) (map number l) ≡ someIn (λ x. eqb j (number x)) l
   unfolding someIn
   some-map j [] = refl
   some-map j (x ∷ l) = ap (λ (b : Bool). eqb j (number x) || b) (some-map j l)

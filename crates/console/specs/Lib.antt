@@ -3,4 +3,5 @@ pub mod Console
 pub mod Contracts
 pub mod Showing
 pub mod Previewing
+pub mod Searching
 pub mod Made

@@ -20,6 +20,7 @@ pub mod calls;
 pub mod labels;
 pub mod previewing;
 pub mod scripts;
+pub mod searching;
 pub mod showing;
 
 // An answer and a count in one number.

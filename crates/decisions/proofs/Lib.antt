@@ -1,3 +1,2 @@
 pub mod RefusalLaws
 pub mod WalkLaws
-pub mod CutLaws

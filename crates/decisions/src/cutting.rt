@@ -1,19 +1,19 @@
 // Rows that lose a station: at Down a and b each lose the other, at an error its receiver loses its sender for the masked destinations.
 ghost use mathlib.Core.Path.{_≡_};
 ghost use mathlib.Core.Bool.{_&&_, _||_};
-ghost use Prim.Native.Nat.{_+_, _^_, _<_, _≤_};
+ghost use Prim.Native.Nat.{_+_, _^_, _<_};
 ghost use lib.Dec.{eqb};
 ghost use Rattle.base.specs.Choice.{if_then_else_};
 ghost use Rattle.base.specs.Lists.{someIn};
-ghost use Rattle.model.specs.Memory.{names, without, rowLimit};
+ghost use Rattle.model.specs.Memory.{names, without};
 ghost use Rattle.model.specs.Calls.{bit, empties, errorOutcome};
-ghost use Rattle.rows.specs.View.{rowOf};
+ghost use Rattle.rows.specs.View.{rowOf, NamesOnce};
 use network::Packet;
 use network::masks::bit;
 use network::masks::marked;
+use rows::Loss;
 use rows::Row;
-use rows::empties;
-use rows::has_station;
+use rows::loss_of;
 use rows::without_station;
 
 // Two stations, and the masks of the destinations for which the first loses the second, and the second the first.
@@ -48,34 +48,27 @@ pub fn cut_of(kind: u8, a: u8, b: u8, p: Packet) -> Cut
     }
 }
 
-// Whether a row for t loses j.
-fn loses(row: Row, j: u8, mask: u16, t: u8) -> bool
-    requires { ⌜ (row .count ≤ rowLimit) × (t < 16) ⌝ }
-    ensures { λ r. ⌜ r ≡ bit mask t && someIn (names j) (rowOf row) ⌝ }
+// What a row for t loses with j.
+fn masked_loss(row: Row, j: u8, mask: u16, t: u8) -> Loss
+    requires { ⌜ NamesOnce row × (t < 16) ⌝ }
+    ensures removed { λ r. ⌜ r .removed ≡ bit mask t && someIn (names j) (rowOf row) ⌝ }
+    ensures emptied { λ r. ⌜ r .emptied ≡ bit mask t && empties (names j) (rowOf row) ⌝ }
 {
     if bit(mask, t) {
-        return has_station(row, j);
+        return loss_of(row, j);
     }
-    false
-}
-
-// Whether this empties it.
-fn loses_all(row: Row, j: u8, mask: u16, t: u8) -> bool
-    requires { ⌜ (row .count ≤ rowLimit) × (t < 16) ⌝ }
-    ensures { λ r. ⌜ r ≡ bit mask t && empties (names j) (rowOf row) ⌝ }
-{
-    if bit(mask, t) {
-        return empties(row, j);
+    Loss {
+        removed: false,
+        emptied: false,
     }
-    false
 }
 
 // The row for t after it.
 pub fn cut_row(row: Row, j: u8, mask: u16, t: u8) -> Row
-    requires { ⌜ (row .count ≤ rowLimit) × (t < 16) ⌝ }
+    requires { ⌜ NamesOnce row × (t < 16) ⌝ }
     ensures { λ r. ⌜ rowOf r ≡ (if bit mask t then without (names j) (rowOf row) else rowOf row) ⌝ }
 {
-    if loses(row, j, mask, t) {
+    if bit(mask, t) {
         return without_station(row, j);
     }
     row
@@ -90,7 +83,7 @@ pub struct Losses {
 
 // The same with the rows of the two for t.
 pub fn with_rows(losses: Losses, cut: Cut, t: u8, row: Row, other: Row) -> Losses
-    requires { ⌜ (row .count ≤ rowLimit) × (other .count ≤ rowLimit) × (t < 16) × (losses .emptied < 2 ^ t) × (losses .others < 2 ^ t) ⌝ }
+    requires { ⌜ NamesOnce row × NamesOnce other × (t < 16) × (losses .emptied < 2 ^ t) × (losses .others < 2 ^ t) ⌝ }
     ensures emptied { λ r. ⌜ r .emptied ≡ losses .emptied + (if bit (cut .mask) t && empties (names (cut .second)) (rowOf row) then 2 ^ t else 0) ⌝ }
     ensures others { λ r. ⌜ r .others ≡ losses .others + (if bit (cut .others) t && empties (names (cut .first)) (rowOf other) then 2 ^ t else 0) ⌝ }
     ensures removed { λ r. ⌜ r .removed ≡ losses .removed || bit (cut .mask) t && someIn (names (cut .second)) (rowOf row)
@@ -103,10 +96,12 @@ pub fn with_rows(losses: Losses, cut: Cut, t: u8, row: Row, other: Row) -> Losse
     let j = cut.second;
     let mine = cut.mask;
     let theirs = cut.others;
+    let first = masked_loss(row, j, mine, t);
+    let second = masked_loss(other, i, theirs, t);
     Losses {
-        emptied: marked(emptied, t, loses_all(row, j, mine, t)),
-        others: marked(others, t, loses_all(other, i, theirs, t)),
-        removed: removed | loses(row, j, mine, t) | loses(other, i, theirs, t),
+        emptied: marked(emptied, t, first.emptied),
+        others: marked(others, t, second.emptied),
+        removed: removed | first.removed | second.removed,
     }
 }
 

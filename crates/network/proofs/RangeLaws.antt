@@ -7,13 +7,15 @@ use lib.ListN.{getD}
 use lib.Dec.{ltb, leb}
 use native.Mathlib.Omega.{arith}
 use borrow.Author.Tests.{lt-ltb, leb-true}
-use Rattle.base.specs.Lists.{allBelow, someIn, tabulate, indexOf, distinct}
+use Rattle.base.specs.Lists.{allBelow, someIn, tabulate, distinct}
 use Rattle.base.proofs.Booleans.{both, Trichotomy, less, equal, more, trichotomy}
-use Rattle.base.proofs.Loops.{tabulate-length, index-within, index-outside, all-pairs, all-square, distinct-tabulate}
+use Rattle.base.proofs.Loops.{tabulate-length, all-pairs, all-square, distinct-tabulate}
 use Rattle.model.specs.Memory.{Successor, names, stations, headInRange, bodyInRange, sizeInRange, cellInRange, placeInRange, airInRange}
 use Rattle.model.specs.Memory.{stationInRange, memoryInRange}
 use Rattle.rows.specs.declared.Row.{Row}
 use Rattle.rows.specs.View.{zeroRow, entryOf, rowOf}
+use Rattle.rows.specs.Search.{placeOf}
+use Rattle.rows.proofs.SearchLaws.{found, not-found}
 use Rattle.network.specs.declared.Packet.{Packet}
 use Rattle.network.specs.declared.Memory.{Memory}
 use Rattle.network.specs.View.{zeroRecord, recordOf, requestOf, replyOf, bodyOf, airOf, labelOf, view}
@@ -65,14 +67,14 @@ unfolding first rowOf names
 all-first row = distinct-tabulate (λ (e : Successor). e .station) (row .count) (entryOf row)
 
 -- Found before k, it is not the first; not found, it is.
-module _ (row : Row) (k r : ℕ) (e : r ≡ indexOf (names (getD (row .stations) k 0)) (tabulate k (entryOf row))) where
+module _ (row : Row) (k r : ℕ) (e : r ≡ placeOf (getD (row .stations) k 0) (tabulate k (entryOf row))) where
   pub named-before : r < k → first row k ≡ false
   unfolding first entryOf
-  named-before h = ap not (index-within _ _ (omega (arith, tabulate-length k (entryOf row))))
+  named-before h = ap not (found _ _ (omega (arith, tabulate-length k (entryOf row))))
 
   pub not-before : k ≤ r → first row k ≡ true
   unfolding first entryOf
-  not-before h = ap not (index-outside _ _ (omega (arith, tabulate-length k (entryOf row))))
+  not-before h = ap not (not-found _ _ (omega (arith, tabulate-length k (entryOf row))))
 
 -- What stands in no table is in range; the place of station at / 16 for at % 16 is, where that is a station.
 abbrev soughtInRange : Memory → ℕ → Bool

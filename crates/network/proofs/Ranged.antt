@@ -12,10 +12,10 @@ use Rattle.base.proofs.Loops.{tabulate-at}
 use Rattle.label.specs.declared.Label.{Label}
 use Rattle.label.specs.Label.{inRange}
 use Rattle.model.specs.Memory as model
-use Rattle.model.specs.Memory.{place, memoryInRange, airLimit, rowLimit}
+use Rattle.model.specs.Memory.{place, memoryInRange, airLimit}
 use Rattle.model.proofs.Invariant.{HeadOk, BodyOk, PacketOk, RecordOk}
 use Rattle.model.proofs.Range.{Sized, Invariant, in-range-invariant}
-use Rattle.rows.specs.View.{zeroRow, entryOf, rowOf}
+use Rattle.rows.specs.View.{zeroRow, entryOf, rowOf, NamesOnce}
 use Rattle.rows.proofs.RowLaws.{row-length}
 use Rattle.network.specs.declared.Packet.{Packet}
 use Rattle.network.specs.declared.Memory.{Memory}
@@ -74,7 +74,7 @@ pub record Ranged (memory : Memory) : Type 0 where
   pub high : memory .n ≤ 16
   pub air-count : memory .air .count ≤ airLimit
   pub packet : (k : ℕ) → k < memory .air .count → Carried (memory .n) (getD (memory .air .packets) k zeroPacket)
-  pub row-count : (i t : ℕ) → i < memory .n → t < memory .n → getD (memory .rows) (place i t) zeroRow .count ≤ rowLimit
+  pub row : (i t : ℕ) → i < memory .n → t < memory .n → NamesOnce (getD (memory .rows) (place i t) zeroRow)
   pub successor : (i t k : ℕ) → i < memory .n → t < memory .n → k < getD (memory .rows) (place i t) zeroRow .count
       → getD (getD (memory .rows) (place i t) zeroRow .stations) k 0 < memory .n
   pub label : (i t : ℕ) → i < memory .n → t < memory .n → inRange (labelOf (memory .s) (memory .m) (memory .d) (place i t)) ≡ true
@@ -88,11 +88,13 @@ module _ (memory : Memory) (k : Invariant ⊥ (view memory)) where
       let there = mem-at (airOf (memory .air)) x model.zeroPacket (omega (arith, air-length (memory .air))) in
       carried (memory .n) _ (subst (PacketOk ⊥ _ _ _) (air-at (memory .air) x model.zeroPacket h) (k .formed .air _ there))
 
-  row-short : (i t : ℕ) → i < memory .n → t < memory .n → getD (memory .rows) (place i t) zeroRow .count ≤ rowLimit
+  names-once : (i t : ℕ) → i < memory .n → t < memory .n → NamesOnce (getD (memory .rows) (place i t) zeroRow)
   unfolding view
-  row-short i t hi ht =
+  names-once i t hi ht =
       let row = getD (memory .rows) (place i t) zeroRow in
-      omega (arith, ap length (row-at (memory .rows) (place i t)), row-length row, k .formed .tables .cell i t hi ht .short)
+      let same = row-at (memory .rows) (place i t) in
+      let cell = k .formed .tables .cell i t hi ht in
+      record { short = omega (arith, ap length same, row-length row, cell .short); once = rw same at (cell .once) }
 
   successor-below : (i t x : ℕ) → i < memory .n → t < memory .n → x < getD (memory .rows) (place i t) zeroRow .count
       → getD (getD (memory .rows) (place i t) zeroRow .stations) x 0 < memory .n
@@ -117,7 +119,7 @@ module _ (memory : Memory) (k : Invariant ⊥ (view memory)) where
     high = k .formed .high;
     air-count = omega (arith, k .room, air-length (memory .air));
     packet = packet-carried;
-    row-count = row-short;
+    row = names-once;
     successor = successor-below;
     label = label-ranged;
     kept = λ i s hi hs q. subst (RecordOk (memory .n)) (record-at (memory .records) (place i s)) (k .formed .records .each i s hi hs q);

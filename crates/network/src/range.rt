@@ -57,11 +57,13 @@ fn named_once(row: Row) -> bool
     requires { ⌜ row .count ≤ rowLimit ⌝ }
     ensures { λ r. ⌜ r ≡ distinct (stations (rowOf row)) ⌝ }
 {
-    let count = row.count as usize;
+    let count = row.count;
     let mut k = 0;
     while k < count {
-        let station = row.stations[k];
-        if find(row, k, station) < k {
+        let at = k as usize;
+        let station = row.stations[at];
+        let found = find(row, k, station);
+        if found.place < k {
             return false;
         }
         k += 1;

@@ -10,13 +10,13 @@ use Rattle.base.specs.Lists.{tabulate}
 use Rattle.base.proofs.Loops.{tabulate-at}
 use Rattle.label.specs.declared.Label.{Label}
 use Rattle.model.specs.Memory as model
-use Rattle.model.specs.Memory.{Network, error, zeroLabel, place, rowIn, setAir, rowLimit}
+use Rattle.model.specs.Memory.{Network, error, zeroLabel, place, rowIn, setAir}
 use Rattle.model.specs.Calls.{errors, errorOutcome}
 use Rattle.model.specs.Events.{eventOf}
 use Rattle.model.specs.Preview.{shows, numberShown, preview}
 use Rattle.model.proofs.Narrowing.{preview-narrowed}
 use Rattle.rows.specs.declared.Row.{Row}
-use Rattle.rows.specs.View.{zeroRow, rowOf}
+use Rattle.rows.specs.View.{zeroRow, rowOf, NamesOnce}
 use Rattle.network.specs.declared.Packet.{Packet}
 use Rattle.network.specs.declared.Memory.{Memory}
 use Rattle.network.specs.View.{zeroNumber, zeroRecord, zeroPacket, bodyOf, labelOf, view}
@@ -101,17 +101,17 @@ module _ {m : Memory} {k r : ℕ} {w : Gathered} (s : InRange m) (e : w ≡ gath
     same : p .receiver % 16 ≡ p .receiver
     same = omega (arith, packet-ok .receiver-below, known h .high)
 
-    -- The receiver's rows: they are short, and the model's.
+    -- The receiver's rows: they name a station once at most, and are the model's.
     row-is : (u : ℕ) → u < m .n → getD (tabulate 16 (λ t. getD (m .rows) (place (p .receiver % 16) t) zeroRow)) u zeroRow ≡ getD (m .rows) (place (p .receiver) u) zeroRow
     row-is u l = tabulate-at 16 (λ t. getD (m .rows) (place (p .receiver % 16) t) zeroRow) u zeroRow (omega (arith, l, known h .high)) ∙ ap (λ (i : ℕ). getD (m .rows) (place i u) zeroRow) same
 
     abbrev RowsKnown : Gathered → Type 0
-    RowsKnown x = (u : ℕ) → u < x .n → (u < 16) × (getD (x .rows) u zeroRow .count ≤ rowLimit) × (rowOf (getD (x .rows) u zeroRow) ≡ rowIn (map rowOf (m .rows)) (x .packet .receiver) u)
+    RowsKnown x = (u : ℕ) → u < x .n → (u < 16) × NamesOnce (getD (x .rows) u zeroRow) × (rowOf (getD (x .rows) u zeroRow) ≡ rowIn (map rowOf (m .rows)) (x .packet .receiver) u)
 
     pub rows-known : RowsKnown w
     rows-known = subst RowsKnown (sym e) (λ u l. (
       omega (arith, l, known h .high),
-      subst (λ (x : Row). x .count ≤ rowLimit) (sym (row-is u l)) (known h .row-count (p .receiver) u (packet-ok .receiver-below) l),
+      subst NamesOnce (sym (row-is u l)) (known h .row (p .receiver) u (packet-ok .receiver-below) l),
       ap rowOf (row-is u l) ∙ sym (row-at (m .rows) (place (p .receiver) u)),
     ))
 

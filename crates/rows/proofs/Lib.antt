@@ -1,2 +1,3 @@
 pub mod Bounds
 pub mod RowLaws
+pub mod SearchLaws

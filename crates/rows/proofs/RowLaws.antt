@@ -1,21 +1,22 @@
 -- Laws of rows read as lists.
-use Prim.Native.Nat.{ℕ, _+_, _≤_, _<_}
+use Prim.Native.Nat.{ℕ, suc, _+_, _≤_, _<_}
 use mathlib.Core.Path.{_≡_, refl, sym, ap, ap₂, _∙_}
 use mathlib.Core.Logic.{_≢_}
-use mathlib.Core.Bool.{Bool, true, not, _&&_}
-use mathlib.Core.List.{[], _∷_, _++_, tail}
+use mathlib.Core.Bool.{true, not}
+use mathlib.Core.List.{List, [], _∷_, _++_}
 use lib.ListN.{length, getD, set}
+use lib.Dec.{ltb}
 use lib.Seq.{getD-set-same, getD-set-other}
 use native.Mathlib.Omega.{arith}
 use borrow.Author.Tests.{eq-eqb, ne-eqb}
-use Rattle.base.specs.Lists.{someIn, allIn, keep, tabulate}
-use Rattle.base.proofs.Lists.{keep-length, none-kept}
-use Rattle.base.proofs.Loops.{tabulate-length, tabulate-more, tabulate-same, tabulate-set}
+use Rattle.base.specs.Choice.{if_then_else_}
+use Rattle.base.specs.Lists.{tabulate, removeAt, removed}
+use Rattle.base.proofs.Lists.{keep-length}
+use Rattle.base.proofs.Loops.{tabulate-length, tabulate-more, tabulate-same, tabulate-set, removed-at, tabulate-removeAt}
 use Rattle.label.specs.declared.Label.{Label}
-use Rattle.label.specs.Label.{label}
+use Rattle.label.specs.Label.{label, above}
 use Rattle.model.specs.Memory as model
-use Rattle.model.specs.Memory.{names, without, rowLimit}
-use Rattle.model.specs.Calls.{empties}
+use Rattle.model.specs.Memory.{names, under, rowLimit}
 use Rattle.rows.specs.declared.Row.{Row}
 use Rattle.rows.specs.View.{successor, entryOf, rowOf}
 use Rattle.rows.proofs.Bounds.{RowLengths}
@@ -73,25 +74,22 @@ pub row-length : (row : Row) → length (rowOf row) ≡ row .count
 unfolding rowOf
 row-length row = tabulate-length (row .count) (entryOf row)
 
--- Of k entries no more than k stay.
-pub filtered-short : (next : Row) (t : model.Successor → Bool) (k : ℕ) (f : ℕ → model.Successor) → rowOf next ≡ keep t (tabulate k f) → next .count ≤ k
-filtered-short next t k f e =
-    let q : length (keep t (tabulate k f)) ≡ next .count = ap length (sym e) ∙ row-length next in
-    omega (arith, keep-length t (tabulate k f), tabulate-length k f)
+-- No more entries stay than there are.
+pub under-short : (next : Row) (g : Label) (r : model.Row) → rowOf next ≡ under g r → next .count ≤ length r
+unfolding under
+under-short next g r e =
+    let q : length (under g r) ≡ next .count = ap length (sym e) ∙ row-length next in
+    omega (arith, keep-length (λ x. above g (x .label)) r)
 
-pub filtered-shorter : (row next : Row) (t : model.Successor → Bool) → rowOf next ≡ keep t (rowOf row) → next .count ≤ row .count
-unfolding rowOf
-filtered-shorter row next t e = filtered-short next t (row .count) (entryOf row) e
-
--- A full row without its first entry.
-pub row-first-left : (row : Row) → row .count ≡ 4
-    → let l : ℕ → Label = λ k. getD (row .labels) k (label 0 0 0) in
-    let s : ℕ → ℕ = λ k. getD (row .stations) k 0 in
-    rowOf (record { labels = l 1 ∷ l 2 ∷ l 3 ∷ l 3 ∷ []; stations = s 1 ∷ s 2 ∷ s 3 ∷ s 3 ∷ []; count = 3 }) ≡ tail (rowOf row)
-unfolding rowOf entryOf tabulate
-row-first-left row full = rw full refl
-
--- A row is emptied where an entry leaves, and every entry does.
-pub empties-is : (leaves : model.Successor → Bool) (r : model.Row) → empties leaves r ≡ someIn leaves r && allIn leaves r
-unfolding empties without
-empties-is leaves r = ap (λ (b : Bool). someIn leaves r && b) (none-kept leaves r)
+-- The row that a loop leaves which moved the entries after a place up.
+pub row-removed : (row next : Row) → RowLengths row → (place last : ℕ) → place ≤ last → last < rowLimit → row .count ≡ suc last → next .count ≡ last
+    → next .stations ≡ removed place last (row .stations) → next .labels ≡ removed place last (row .labels) → rowOf next ≡ removeAt place (rowOf row)
+unfolding rowOf entryOf
+row-removed row next long place last h few q e stations labels =
+    let f : ℕ → model.Successor = entryOf row in
+    ap (λ c. tabulate c (entryOf next)) e
+    ∙ tabulate-same last (entryOf next) (λ i. f (if ltb i place then i else suc i))
+    (λ i m. ap₂ (λ (s : ℕ) (l : Label). successor s l)
+    (ap (λ (l : List ℕ). getD l i 0) stations ∙ removed-at place last (row .stations) 0 h (omega (arith, long .stations-length)) i m)
+    (ap (λ (l : List Label). getD l i (label 0 0 0)) labels ∙ removed-at place last (row .labels) (label 0 0 0) h (omega (arith, long .labels-length)) i m))
+    ∙ tabulate-removeAt last place f h ∙ ap (λ c. removeAt place (tabulate c f)) (sym q)

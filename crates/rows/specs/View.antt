@@ -1,17 +1,16 @@
 -- A row read as the model's. Free are the entries from `count` up, which have no part in the reading. A count over the limit is read as a list
 -- that long, so that a row out of range is read as a row out of range.
-use Prim.Native.Nat.{ℕ}
-use mathlib.Core.Bool.{Bool, not}
+use Prim.Native.Nat.{ℕ, _≤_}
+use mathlib.Core.Path.{_≡_}
+use mathlib.Core.Bool.{true}
 use mathlib.Core.List.{[]}
 use lib.ListN.{getD}
-use Rattle.base.specs.Lists.{tabulate}
+use Rattle.base.specs.Lists.{tabulate, distinct}
 use Rattle.label.specs.declared.Label.{Label}
-use Rattle.label.specs.Label.{label, above}
+use Rattle.label.specs.Label.{label}
 use Rattle.model.specs.Memory as model
-use Rattle.model.specs.Memory.{names}
+use Rattle.model.specs.Memory.{stations, rowLimit}
 use Rattle.rows.specs.declared.Row.{Row}
-use Rattle.rows.specs.declared.Keep.{Keep}
-use Rattle.rows.specs.declared.Keep.the-variants.{Under, Without}
 
 -- What stands for a read past an array's end, which no code makes.
 abbrev pub zeroRow : Row
@@ -27,7 +26,7 @@ entryOf row k = successor (getD (row .stations) k 0) (getD (row .labels) k (labe
 unfoldable pub rowOf : Row → model.Row
 rowOf row = tabulate (row .count) (entryOf row)
 
--- Which entries stay in a row: those whose label g is above, or those that don't name j.
-unfoldable pub keeps : Keep → model.Successor → Bool
-keeps (Under g) e = above g (e .label)
-keeps (Without j) e = not (names j e)
+-- A row of memory in range: "every count is within its limit", "no row names .. a station twice".
+pub record NamesOnce (row : Row) : Type 0 where
+  pub short : row .count ≤ rowLimit
+  pub once : distinct (stations (rowOf row)) ≡ true

@@ -1,11 +1,12 @@
-// Rows of successors (01, "The network's memory"): looking for a station, keeping entries, and the row of an accepted reply.
+// Rows of successors (01, "The network's memory"): the search for a station, the row of an accepted reply, and the row that a station leaves.
 ghost use mathlib.Core.Path.{_≡_};
 ghost use mathlib.Core.List.{[], _∷_, _++_};
 ghost use Prim.Native.Nat.{_<_, _≤_};
-ghost use Rattle.base.specs.Lists.{someIn, allIn, keep, tabulate, indexOf};
+ghost use Rattle.base.specs.Lists.{someIn, tabulate, removeAt};
 ghost use Rattle.model.specs.Memory.{names, without, under, put, withRoom, rowLimit};
 ghost use Rattle.model.specs.Calls.{empties};
-ghost use Rattle.rows.specs.View.{successor, entryOf, rowOf, keeps};
+ghost use Rattle.rows.specs.View.{successor, entryOf, rowOf, NamesOnce};
+ghost use Rattle.rows.specs.Search.{placeOf, lookedAt};
 use label::Label;
 use label::label_of;
 
@@ -33,20 +34,33 @@ pub fn empty_row() -> Row
     }
 }
 
-// The place of the first of so many entries that names j, or their number where none does.
-pub fn find(row: Row, count: usize, j: u8) -> usize
+// How a search ended: the place of the first entry that names the station, or the number of entries where none does; and how many places
+// it looked at.
+pub struct Found {
+    pub place: u8,
+    pub looked: u8,
+}
+
+// The search for j among the first entries of a row, so many as `count` says.
+pub fn find(row: Row, count: u8, j: u8) -> Found
     requires { ⌜ count ≤ rowLimit ⌝ }
-    ensures { λ r. ⌜ r ≡ indexOf (names j) (tabulate count (entryOf row)) ⌝ }
+    ensures place { λ r. ⌜ r .place ≡ placeOf j (tabulate count (entryOf row)) ⌝ }
+    ensures looked { λ r. ⌜ r .looked ≡ lookedAt j (tabulate count (entryOf row)) ⌝ }
 {
-    let mut k = 0;
-    while k < count {
-        let station = row.stations[k];
+    let mut place = count;
+    let mut looked = 0;
+    while looked < place {
+        let at = looked as usize;
+        let station = row.stations[at];
         if station == j {
-            return k;
+            place = looked;
         }
-        k += 1;
+        looked += 1;
     }
-    k
+    Found {
+        place: place,
+        looked: looked,
+    }
 }
 
 // The row with one more entry.
@@ -63,28 +77,10 @@ fn push(row: Row, station: u8, label: Label) -> Row
     next
 }
 
-// Which entries stay in a row.
-pub enum Keep {
-    // Those whose label this one is above.
-    Under(Label),
-    // Those that don't name this station.
-    Without(u8),
-}
-
-// Whether an entry stays.
-fn keeps(test: Keep, station: u8, label: Label) -> bool
-    ensures { λ r. ⌜ r ≡ keeps test (successor station label) ⌝ }
-{
-    match test {
-        Keep::Under(g) => label::is_above(g, label),
-        Keep::Without(j) => j != station,
-    }
-}
-
-// The entries that stay.
-pub fn filtered(row: Row, test: Keep) -> Row
+// The entries whose label g is above.
+fn under(row: Row, g: Label) -> Row
     requires { ⌜ row .count ≤ rowLimit ⌝ }
-    ensures { λ r. ⌜ rowOf r ≡ keep (keeps test) (rowOf row) ⌝ }
+    ensures { λ r. ⌜ rowOf r ≡ under g (rowOf row) ⌝ }
 {
     let count = row.count as usize;
     let mut next = row;
@@ -93,9 +89,29 @@ pub fn filtered(row: Row, test: Keep) -> Row
     while k < count {
         let station = row.stations[k];
         let label = row.labels[k];
-        if keeps(test, station, label) {
+        if label::is_above(g, label) {
             next = push(next, station, label);
         }
+        k += 1;
+    }
+    next
+}
+
+// The row without the entry at a place: later ones move up.
+fn remove_at(row: Row, place: u8) -> Row
+    requires { ⌜ (place < row .count) × (row .count ≤ rowLimit) ⌝ }
+    ensures { λ r. ⌜ rowOf r ≡ removeAt place (rowOf row) ⌝ }
+{
+    let count = row.count - 1;
+    let last = count as usize;
+    let mut next = row;
+    next.count = count;
+    let mut k = place as usize;
+    while k < last {
+        let station = next.stations[k + 1];
+        let label = next.labels[k + 1];
+        next.stations[k] = station;
+        next.labels[k] = label;
         k += 1;
     }
     next
@@ -109,19 +125,7 @@ fn with_room(row: Row) -> Row
     if row.count < ROW_LIMIT {
         return row;
     }
-    let x = row.labels[1];
-    let y = row.labels[2];
-    let z = row.labels[3];
-    let labels = [x, y, z, z];
-    let a = row.stations[1];
-    let b = row.stations[2];
-    let c = row.stations[3];
-    let stations = [a, b, c, c];
-    Row {
-        labels: labels,
-        stations: stations,
-        count: 3,
-    }
+    remove_at(row, 0)
 }
 
 // The row with the entry in the place of the one that names its station, or last.
@@ -129,11 +133,13 @@ fn put(row: Row, station: u8, label: Label) -> Row
     requires { ⌜ row .count ≤ rowLimit ⌝ }
     ensures { λ r. ⌜ rowOf r ≡ put (successor station label) (rowOf row) ⌝ }
 {
-    let count = row.count as usize;
-    let at = find(row, count, station);
-    if count <= at {
+    let count = row.count;
+    let found = find(row, count, station);
+    let place = found.place;
+    if count <= place {
         return push(with_room(row), station, label);
     }
+    let at = place as usize;
     let mut next = row;
     next.stations[at] = station;
     next.labels[at] = label;
@@ -145,47 +151,40 @@ pub fn adopted(row: Row, g: Label, j: u8, v: Label) -> Row
     requires { ⌜ row .count ≤ rowLimit ⌝ }
     ensures { λ r. ⌜ rowOf r ≡ put (successor j v) (under g (rowOf row)) ⌝ }
 {
-    put(filtered(row, Keep::Under(g)), j, v)
+    put(under(row, g), j, v)
 }
 
-// Whether j stands in the row.
-pub fn has_station(row: Row, j: u8) -> bool
-    requires { ⌜ row .count ≤ rowLimit ⌝ }
-    ensures { λ r. ⌜ r ≡ someIn (names j) (rowOf row) ⌝ }
-{
-    let count = row.count as usize;
-    find(row, count, j) < count
+// What a row loses: whether an entry leaves it, and whether this empties it.
+pub struct Loss {
+    pub removed: bool,
+    pub emptied: bool,
 }
 
-// Whether every entry names j.
-fn only_station(row: Row, j: u8) -> bool
-    requires { ⌜ row .count ≤ rowLimit ⌝ }
-    ensures { λ r. ⌜ r ≡ allIn (names j) (rowOf row) ⌝ }
+// What the row loses with j.
+pub fn loss_of(row: Row, j: u8) -> Loss
+    requires { ⌜ NamesOnce row ⌝ }
+    ensures removed { λ r. ⌜ r .removed ≡ someIn (names j) (rowOf row) ⌝ }
+    ensures emptied { λ r. ⌜ r .emptied ≡ empties (names j) (rowOf row) ⌝ }
 {
-    let count = row.count as usize;
-    let mut k = 0;
-    while k < count {
-        let station = row.stations[k];
-        if station != j {
-            return false;
-        }
-        k += 1;
+    let count = row.count;
+    let found = find(row, count, j);
+    let removed = found.place < count;
+    Loss {
+        removed: removed,
+        emptied: removed & (count == 1),
     }
-    true
 }
 
-// Whether the row is empty once j has left it, and was not before.
-pub fn empties(row: Row, j: u8) -> bool
-    requires { ⌜ row .count ≤ rowLimit ⌝ }
-    ensures { λ r. ⌜ r ≡ empties (names j) (rowOf row) ⌝ }
-{
-    has_station(row, j) & only_station(row, j)
-}
-
-// The row without j.
+// The row without j: the entry at the place found is removed.
 pub fn without_station(row: Row, j: u8) -> Row
-    requires { ⌜ row .count ≤ rowLimit ⌝ }
+    requires { ⌜ NamesOnce row ⌝ }
     ensures { λ r. ⌜ rowOf r ≡ without (names j) (rowOf row) ⌝ }
 {
-    filtered(row, Keep::Without(j))
+    let count = row.count;
+    let found = find(row, count, j);
+    let place = found.place;
+    if place < count {
+        return remove_at(row, place);
+    }
+    row
 }

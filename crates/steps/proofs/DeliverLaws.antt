@@ -129,7 +129,7 @@ module _ {memory : Memory} {packets : List Packet} {count kind a b r : ℕ} (h :
         record {
           receiver-below = inside .0;
           label-ranged = head .ranged;
-          row-short = rw cell-is (ranged .row-count (p .receiver) (p .destination) (carried .receiver-below) (head .destination-below));
+          row-short = rw cell-is (ranged .row (p .receiver) (p .destination) (carried .receiver-below) (head .destination-below) .short);
           cached-ranged = λ n. rw slot-is (ranged .kept (p .receiver) (p .source) (carried .receiver-below) (head .source-below) n .ranged);
           hop-below = λ n. rw slot-is (omega (arith, ranged .kept (p .receiver) (p .source) (carried .receiver-below) (head .source-below) n .hop-below, ranged .high));
         }

@@ -1,15 +1,16 @@
 -- Laws of the packets that stay in the air.
-use Prim.Native.Nat.{ℕ, suc, _+_, _-_, _≤_, _<_}
+use Prim.Native.Nat.{ℕ, _+_, _-_, _≤_, _<_}
 use mathlib.Core.Path.{_≡_, refl, ap, _∙_}
 use mathlib.Core.Logic.{_≢_}
 use mathlib.Core.Bool.{Bool, true, false, not}
 use mathlib.Core.List.{List, _++_}
-use lib.ListN.{length, take, length-append, length-take, length-drop}
+use lib.ListN.{length}
 use native.Mathlib.Omega.{arith}
 use lib.Dec.{eqb}
 use borrow.Author.Tests.{ne-eqb, eqb-true, eqb-false}
 use Rattle.base.specs.Lists.{removeAt}
 use Rattle.base.proofs.Lists.{keep-length}
+use Rattle.base.proofs.Loops.{length-removeAt}
 use Rattle.model.specs.Memory as model
 use Rattle.model.specs.Calls.{between, dropBetween}
 use Rattle.network.specs.declared.Packet.{Packet}
@@ -20,8 +21,8 @@ use Rattle.steps.specs.Parting.{restOf}
 module _ (packets : List Packet) (count k : ℕ) (h : k < count) where
   pub removeAt-length : length (removeAt k (packetsOf packets count)) ≡ count - 1
   removeAt-length =
-      length-append (take k (packetsOf packets count)) _
-      ∙ rw (length-take k (packetsOf packets count), length-drop (suc k) (packetsOf packets count), packets-count packets count) (omega arith)
+      let all = packets-count packets count in
+      length-removeAt k (packetsOf packets count) (omega arith) ∙ ap (λ c. c - 1) all
 
   -- What `exchange` gives, with the count as it was.
   pub exchanged : (next : List Packet) (sent : List model.Packet) → packetsOf next (count - 1 + length sent) ≡ removeAt k (packetsOf packets (count - 1 + 1)) ++ sent

@@ -6,6 +6,7 @@ pub mod labels;
 pub mod networks;
 pub mod program;
 pub mod random;
+pub mod rows;
 pub mod script_bytes;
 pub mod scripts;
 pub mod tally;

@@ -10,7 +10,7 @@
 use differential::random::Random;
 use differential::scripts::{self, Script};
 use differential::tally::{Tally, ANSWERS};
-use differential::{damage, labels, networks, program, script_bytes};
+use differential::{damage, labels, networks, program, rows, script_bytes};
 use std::panic::{catch_unwind, AssertUnwindSafe};
 use std::process::ExitCode;
 use std::sync::atomic::{AtomicBool, AtomicU64, AtomicUsize, Ordering::Relaxed};
@@ -50,6 +50,13 @@ fn families() -> Vec<Family> {
             cases: 1 + 1_000_000 / TRIPLES,
             check: Box::new(|case| if case == 0 { labels::check_cases() } else { labels::check_random(case, TRIPLES) }),
             meets: &[0, 1, 112, 113, 114],
+            previews: &[],
+        },
+        Family {
+            name: "rows",
+            cases: 2,
+            check: Box::new(|case| if case == 0 { rows::check_all() } else { rows::check_sizes() }),
+            meets: &[0, 1, 2],
             previews: &[],
         },
         Family {

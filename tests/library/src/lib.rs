@@ -40,6 +40,7 @@ entry_points! { &[u8], as_ptr, *const u8:
     srp_station = station(i: usize; out);
     srp_packet = packet(k: usize; out);
     srp_preview = preview(k: usize; out);
+    srp_find = find(station: usize);
     srp_script_start = script_start();
 }
 

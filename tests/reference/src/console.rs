@@ -2,7 +2,7 @@
 
 use crate::calls::Answer;
 use crate::label::{new_label as new_label_in_range, Label};
-use crate::network::{Bytes, Network};
+use crate::network::{Bytes, Network, Row, MAX_STATIONS, MAX_SUCCESSORS};
 use crate::script;
 
 fn result(answer: u32, count: u32) -> u64 {
@@ -157,6 +157,17 @@ pub fn preview(memory: &[u8], k: usize, out: &mut [u8]) -> u64 {
         let (done, preview) = network.preview(k)?;
         put(preview.bytes(), out)?;
         Ok(done)
+    }))
+}
+
+/// Where a station stands in a row, or the row's count, and how many places were looked at: 1 for no row, 2 for no station.
+pub fn find(row: &[u8], station: usize) -> u64 {
+    shown(Row::of(row).filter(|row| usize::from(row.count) <= MAX_SUCCESSORS).ok_or(1).and_then(|row| {
+        if station >= MAX_STATIONS {
+            return Err(2);
+        }
+        let place = row.position(station).unwrap_or(usize::from(row.count));
+        Ok(place as u32 + 65_536 * row.looked_at(station) as u32)
     }))
 }
 

@@ -56,6 +56,7 @@ questions! {
     srp_air = air();
     srp_link = link(a, b);
     srp_script_start = script_start();
+    srp_find = find(station);
 }
 
 shows! {

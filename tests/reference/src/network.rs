@@ -126,8 +126,18 @@ impl Row {
         self.count == 0
     }
 
+    /// A row as the console shows it.
+    pub fn of(bytes: &[u8]) -> Option<&Row> {
+        (bytes.len() >= size_of::<Row>()).then(|| unsafe { &*bytes.as_ptr().cast() })
+    }
+
     pub fn position(&self, station: usize) -> Option<usize> {
         self.successors().iter().position(|entry| usize::from(entry.station) == station)
+    }
+
+    /// "how many places it looked at: up to and with the hit, or the row's count if there is none".
+    pub fn looked_at(&self, station: usize) -> usize {
+        self.position(station).map_or(usize::from(self.count), |at| at + 1)
     }
 
     /// Takes the entry at a place out; later ones move up.

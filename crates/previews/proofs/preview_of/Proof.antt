@@ -5,8 +5,8 @@ use mathlib.Core.List.{map}
 use lib.ListN.{getD}
 use native.Mathlib.Omega.{arith}
 use borrow.Author.Needs.{needs}
-use Rattle.model.specs.Memory.{zeroLabel, rowIn, rowLimit}
-use Rattle.rows.specs.View.{zeroRow, rowOf}
+use Rattle.model.specs.Memory.{zeroLabel, rowIn}
+use Rattle.rows.specs.View.{zeroRow, rowOf, NamesOnce}
 use Rattle.network.specs.declared.Memory.{Memory}
 use Rattle.station.proofs.Laws.{sent-few}
 use Rattle.steps.proofs.CutLaws.{Lost, lost-none, lost-below, lost-alone}
@@ -41,8 +41,8 @@ arm c = c .before .before .before
 below : (c : Of tie.In-loop) → (c .before .loop .u < begin (arm (c .before .before)) .args .t1 .n) × (c .before .loop .u < 16)
 below c = let w = landing (arm (c .before .before)) in (omega (arith, c .loop-test), omega (arith, c .loop-test, w .few-stations))
 
-short : (c : Of tie.After-row) → getD (begin (arm (c .before .before .before)) .args .t1 .rows) (c .before .before .loop .u) zeroRow .count ≤ rowLimit
-short c =
+names-once : (c : Of tie.After-row) → NamesOnce (getD (begin (arm (c .before .before .before)) .args .t1 .rows) (c .before .before .loop .u) zeroRow)
+names-once c =
     let past = arm (c .before .before .before) in
     let (m, s, e) = begin past .pre in
     rows-known s e (past .before .refusal .ensures) (past .if1 .left) (c .before .before .loop .u) (below (c .before) .0) .1
@@ -95,7 +95,7 @@ with-rows-requires c κs =
     let at = c .before .before in
     let (m, s, e) = begin (arm (at .before)) .pre in
     let small = lost-below (at .loop .inv .1 m s e) in
-    (short c, short c, below (c .before) .1, small .0, small .1)
+    (names-once c, names-once c, below (c .before) .1, small .0, small .1)
 
 add-u : Of tie.Need-add-u
 add-u c = record { fits = omega (arith, below (c .before .before)) }

@@ -1,56 +1,42 @@
--- `find` meets its contract: no entry before place k names j.
+-- `find` meets its contract: the search so far, turn by turn.
 use Prim.Native.Nat.{_-_, _≤_}
-use mathlib.Core.Path.{_≡_, sym, _∙_}
-use mathlib.Core.Bool.{true, not}
 use native.Mathlib.Omega.{arith}
 use borrow.Author.Needs.{needs}
-use Rattle.base.specs.Lists.{allBelow}
-use Rattle.base.proofs.Loops.{all-none, all-more, index-found, index-not-found}
-use Rattle.model.specs.Memory.{names}
-use Rattle.rows.specs.View.{entryOf}
-use Rattle.rows.proofs.RowLaws.{names-same, names-other}
+use Rattle.base.proofs.Booleans.{cases}
+use Rattle.rows.proofs.SearchLaws.{Search, search-none, search-more, search-hit, search-place, search-looked}
 use Rattle.rows.proofs.find.Statement.{statement}
 use Rattle.rows.proofs.find.Tie as tie
 
 abbrev Inv-loop : tie.InvT-loop
-Inv-loop count j row k₀ k = (k ≤ count) × (allBelow k (λ x. not (names j (entryOf row x))) ≡ true)
+Inv-loop count j row place₀ looked₀ place looked = (place ≤ count) × Search row count j place looked
 
 abbrev μ-loop : tie.MeasureT-loop
-μ-loop count j row k₀ k = count - k
+μ-loop count j row place₀ looked₀ place looked = place - looked
 
 loop-holds : tie.Need-loop-holds Inv-loop μ-loop
-loop-holds c = (omega arith, all-none _)
+loop-holds c = (omega arith, search-none)
+
+cast-at : tie.Need-cast-at Inv-loop μ-loop
+cast-at c = search needs
 
 element-copy-out-station : tie.Need-element-copy-out-station Inv-loop μ-loop
 element-copy-out-station c = search needs
 
-returns : tie.Need-returns Inv-loop μ-loop
-returns c = sym (index-found _ _ _ _ (c .before .before .before .loop .inv .1) (omega arith) (names-same _ _ _ (c .if1 .taken)))
-
-add-k : tie.Need-add-k Inv-loop μ-loop
-add-k c = search needs
+add-looked : tie.Need-add-looked Inv-loop μ-loop
+add-looked c = search needs
 
 loop-less : tie.Need-loop-less Inv-loop μ-loop
-loop-less c = search needs
+loop-less c = cases (c .if1 .came) (λ w. omega arith) (λ w. omega arith)
 
 loop-again : tie.Need-loop-again Inv-loop μ-loop
-loop-again c = (omega arith, all-more _ _ (c .before .before .before .loop .inv .1) (names-other _ _ _ (c .if1 .left)))
+loop-again c =
+    let so-far = c .before .before .before .loop .inv .1 in
+    cases (c .if1 .came)
+    (λ w. (omega (arith, w .1), search-hit so-far (omega arith) (w .1) (w .0 .taken)))
+    (λ w. (omega (arith, w .1), search-more so-far (omega arith) (w .1) (w .0 .left)))
 
-returns-2 : tie.Need-returns-2 Inv-loop μ-loop
-returns-2 c =
-    let e : c .before .loop .k ≡ c .before .before .args .count = omega arith in
-    e ∙ sym (index-not-found _ _ _ _ (c .before .loop .inv .1) e)
+returns : tie.Need-returns Inv-loop μ-loop
+returns c = (search-place (c .before .loop .inv .1) (omega arith), search-looked (c .before .loop .inv .1) (omega arith))
 
 pub find-spec : {M : Type 1} → statement M
-find-spec =
-    tie.close
-    (tie.spec
-    Inv-loop
-    μ-loop
-    loop-holds
-    element-copy-out-station
-    returns
-    add-k
-    loop-less
-    loop-again
-    returns-2)
+find-spec = tie.close (tie.spec Inv-loop μ-loop loop-holds cast-at element-copy-out-station add-looked loop-less loop-again returns)

@@ -16,11 +16,11 @@ Inv-loop row count k₀ k = (k ≤ count) × (allBelow k (first row) ≡ true)
 abbrev μ-loop : tie.MeasureT-loop
 μ-loop row count k₀ k = count - k
 
-cast-count : tie.Need-cast-count Inv-loop μ-loop
-cast-count c = search needs
-
 loop-holds : tie.Need-loop-holds Inv-loop μ-loop
 loop-holds c = (omega arith, all-none _)
+
+cast-at : tie.Need-cast-at Inv-loop μ-loop
+cast-at c = search needs
 
 element-copy-out-station : tie.Need-element-copy-out-station Inv-loop μ-loop
 element-copy-out-station c = search needs
@@ -29,7 +29,7 @@ find-requires : tie.Need-find-requires Inv-loop μ-loop
 find-requires c κs = search needs
 
 returns : tie.Need-returns Inv-loop μ-loop
-returns c = sym (all-first _ ∙ all-broken _ _ _ (omega arith) (named-before _ _ _ (c .before .find .ensures) (c .if1 .taken)))
+returns c = sym (all-first _ ∙ all-broken _ _ _ (omega arith) (named-before _ _ _ (c .before .before .find .ensures .0) (c .if1 .taken)))
 
 add-k : tie.Need-add-k Inv-loop μ-loop
 add-k c = search needs
@@ -39,8 +39,8 @@ loop-less c = search needs
 
 loop-again : tie.Need-loop-again Inv-loop μ-loop
 loop-again c =
-    let turn = c .before .before .before .before in
-    (omega arith, all-more _ _ (turn .loop .inv .1) (not-before _ _ _ (c .before .find .ensures) (c .if1 .left)))
+    let turn = c .before .before .before .before .before in
+    (omega arith, all-more _ _ (turn .loop .inv .1) (not-before _ _ _ (c .before .before .find .ensures .0) (c .if1 .left)))
 
 returns-2 : tie.Need-returns-2 Inv-loop μ-loop
 returns-2 c = sym (all-first _ ∙ all-ends _ _ _ (omega arith) (c .before .loop .inv .1))
@@ -51,8 +51,8 @@ named-once-spec =
     (tie.spec
     Inv-loop
     μ-loop
-    cast-count
     loop-holds
+    cast-at
     element-copy-out-station
     find-requires
     returns

@@ -96,7 +96,7 @@ put-label-line-requires c κs =
     let loop = here .before .before .loop in
     let start = here .before .before .before .before in (
       omega (arith, puts-length (loop .inv .1)),
-      rw (here .place .ensures) (ranged start .row-count (start .args .i) (loop .t) (omega arith) (omega arith)),
+      rw (here .place .ensures) (ranged start .row (start .args .i) (loop .t) (omega arith) (omega arith) .short),
     )
 
 loop-less : tie.Need-loop-less Inv-loop μ-loop

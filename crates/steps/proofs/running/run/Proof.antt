@@ -11,11 +11,11 @@ use borrow.Author.Needs.{needs}
 use native.Mathlib.Nat.{sub-zero}
 use borrow.Author.Tests.{eq-eqb, eqb-true, ltb-true, ltb-false}
 use Rattle.base.specs.Choice.{if_then_else_}
-use Rattle.model.specs.Memory.{names, rowIn, rowAt, rowLimit, place, memoryInRange, airLimit}
+use Rattle.model.specs.Memory.{names, rowIn, rowAt, place, memoryInRange, airLimit}
 use Rattle.model.specs.Calls.{takeOut, bit, hopLimit, follow}
 use Rattle.model.specs.Events.{eventOf}
 use Rattle.rows.specs.declared.Row.{Row}
-use Rattle.rows.specs.View.{zeroRow, rowOf}
+use Rattle.rows.specs.View.{zeroRow, rowOf, NamesOnce}
 use Rattle.network.specs.declared.Packet.{Packet}
 use Rattle.network.specs.declared.Memory.{Memory}
 use Rattle.network.specs.View.{zeroPacket, labelOf, view}
@@ -301,12 +301,12 @@ looked c =
 
 -- The rows of the two stations at a turn.
 lost-rows : (c : Of tie.After-other) → let rows = turn (loss-tests (c .before .before .before .before .before)) .loop .memory .rows in
-    (getD rows (c .before .before .before .place3 .result) zeroRow .count ≤ rowLimit) × (getD rows (c .before .before .place4 .result) zeroRow .count ≤ rowLimit)
+    NamesOnce (getD rows (c .before .before .before .place3 .result) zeroRow) × NamesOnce (getD rows (c .before .before .place4 .result) zeroRow)
 lost-rows c =
     let two = ends (loss-of (c .before .before .before .before .before)) in
-    let row-count = known (turn (loss-tests (c .before .before .before .before .before))) .row-count in
+    let once = known (turn (loss-tests (c .before .before .before .before .before))) .row in
     let below : c .before .before .before .before .before .loop3 .u < turn (loss-tests (c .before .before .before .before .before)) .loop .memory .n = omega (arith, c .before .before .before .before .loop3-test) in
-    (rw (c .before .before .before .place3 .ensures) (row-count _ _ (two .0) below), rw (c .before .before .place4 .ensures) (row-count _ _ (two .1) below))
+    (rw (c .before .before .before .place3 .ensures) (once _ _ (two .0) below), rw (c .before .before .place4 .ensures) (once _ _ (two .1) below))
 
 lost-read : (c : Of tie.After-other) → let rows = turn (loss-tests (c .before .before .before .before .before)) .loop .memory .rows in let cut = loss-of (c .before .before .before .before .before) .cut-of .result in
     (rowOf (getD rows (c .before .before .before .place3 .result) zeroRow) ≡ rowIn (map rowOf rows) (cut .first) (c .before .before .before .before .before .loop3 .u))
@@ -402,12 +402,12 @@ module _ (c : Of tie.After-other2) where
         ap (λ (x : ℕ). getD rows x zeroRow) (c .before .before .place6 .ensures) ∙ k .theirs _ (omega arith) small,
       )
 
-  short-rows : (mine-now .count ≤ rowLimit) × (theirs-now .count ≤ rowLimit)
-  short-rows =
+  named-once : NamesOnce mine-now × NamesOnce theirs-now
+  named-once =
       let two = ends (cut-at (cuts (c .before .before))) in
-      let row-count = known (turn (cut-tests (cuts (c .before .before)))) .row-count in
+      let once = known (turn (cut-tests (cuts (c .before .before)))) .row in
       let p = placed (c .before .before) in
-      (rw (same-rows .0) (row-count _ _ (two .0) (p .0)), rw (same-rows .1) (row-count _ _ (two .1) (p .0)))
+      (rw (same-rows .0) (once _ _ (two .0) (p .0)), rw (same-rows .1) (once _ _ (two .1) (p .0)))
 
 -- The rows after the cut.
 cut-rows : (c : Of tie.After-loop4) → let m = turn (cut-tests (all-cut c)) .loop .memory in let cut = cut-at (all-cut c) .cut-of .result in
@@ -779,12 +779,12 @@ element-copy-out-other-2 : Of tie.Need-element-copy-out-other-2
 element-copy-out-other-2 c = placed (c .before) .2
 
 cut-row-requires : Of tie.Need-cut-row-requires
-cut-row-requires c κs = (short-rows c .0, omega (arith, placed (c .before .before), few-stations (cut-tests (cuts (c .before .before)))))
+cut-row-requires c κs = (named-once c .0, omega (arith, placed (c .before .before), few-stations (cut-tests (cuts (c .before .before)))))
 
 cut-row-requires-2 : Of tie.Need-cut-row-requires-2
 cut-row-requires-2 c κs =
     let at = c .before .before .before in
-    (short-rows (c .before) .1, omega (arith, placed at, few-stations (cut-tests (cuts at))))
+    (named-once (c .before) .1, omega (arith, placed at, few-stations (cut-tests (cuts at))))
 
 mul-mine : Of tie.Need-mul-mine
 mul-mine c = record { fits = omega (arith, placed (c .before .before .before .before)) }

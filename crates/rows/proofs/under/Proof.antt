@@ -1,4 +1,4 @@
--- `filtered` meets its contract: after k turns the new row has those of the first k entries that stay.
+-- `under` meets its contract: after k turns the new row has those of the first k entries whose label g is above.
 use Prim.Native.Nat.{_-_, _≤_}
 use mathlib.Core.Path.{_≡_, refl, sym, ap, _∙_}
 use mathlib.Core.List.{_++_, _∷_, []}
@@ -6,24 +6,26 @@ use native.Mathlib.Omega.{arith}
 use borrow.Author.Needs.{needs}
 use Rattle.base.specs.Lists.{keep, tabulate}
 use Rattle.base.proofs.Booleans.{cases}
-use Rattle.base.proofs.Loops.{keep-yes, keep-no}
+use Rattle.base.proofs.Loops.{tabulate-length, keep-yes, keep-no}
+use Rattle.label.specs.Label.{above}
 use Rattle.model.specs.Memory as model
-use Rattle.rows.specs.View.{entryOf, rowOf, keeps}
-use Rattle.rows.proofs.RowLaws.{filtered-short}
-use Rattle.rows.proofs.filtered.Statement.{statement}
-use Rattle.rows.proofs.filtered.Tie as tie
+use Rattle.model.specs.Memory.{under}
+use Rattle.rows.specs.View.{entryOf, rowOf}
+use Rattle.rows.proofs.RowLaws.{under-short}
+use Rattle.rows.proofs.under.Statement.{statement}
+use Rattle.rows.proofs.under.Tie as tie
 
 abbrev Inv-loop : tie.InvT-loop
-Inv-loop test row count next₀ k₀ next k = (k ≤ count) × (rowOf next ≡ keep (keeps test) (tabulate k (entryOf row)))
+Inv-loop g row count next₀ k₀ next k = (k ≤ count) × (rowOf next ≡ under g (tabulate k (entryOf row)))
 
 abbrev μ-loop : tie.MeasureT-loop
-μ-loop test row count next₀ k₀ next k = count - k
+μ-loop g row count next₀ k₀ next k = count - k
 
 cast-count : tie.Need-cast-count Inv-loop μ-loop
 cast-count c = search needs
 
 loop-holds : tie.Need-loop-holds Inv-loop μ-loop
-unfolding rowOf tabulate keep
+unfolding rowOf tabulate under keep
 loop-holds c = (omega arith, refl)
 
 element-copy-out-station : tie.Need-element-copy-out-station Inv-loop μ-loop
@@ -35,12 +37,14 @@ mul-label c = search needs
 element-copy-out-label : tie.Need-element-copy-out-label Inv-loop μ-loop
 element-copy-out-label c = search needs
 
-keeps-requires : tie.Need-keeps-requires Inv-loop μ-loop
-keeps-requires c κs = search needs
+is-above-requires : tie.Need-is-above-requires Inv-loop μ-loop
+is-above-requires c κs = search needs
 
 push-requires : tie.Need-push-requires Inv-loop μ-loop
 push-requires c κs =
-    omega (arith, filtered-short _ _ _ _ (c .before .before .before .before .before .loop .inv .1))
+    let row = c .before .before .before .before .before .before .args .t1 in
+    let so-far = c .before .before .before .before .before .loop in
+    omega (arith, under-short _ _ _ (so-far .inv .1), tabulate-length (so-far .k) (entryOf row))
 
 add-k : tie.Need-add-k Inv-loop μ-loop
 add-k c = search needs
@@ -49,7 +53,7 @@ loop-less : tie.Need-loop-less Inv-loop μ-loop
 loop-less c = search needs
 
 loop-again : tie.Need-loop-again Inv-loop μ-loop
-unfolding entryOf
+unfolding entryOf under
 loop-again c =
     let args = c .before .before .before .before .before .before .args in
     let at = c .before .before .before .before .before .loop in
@@ -59,20 +63,20 @@ loop-again c =
     (λ w. (
       omega arith,
       ap rowOf (w .2) ∙ w .1 .ensures ∙ ap (λ (r : model.Row). r ++ (e ∷ [])) (at .inv .1)
-          ∙ sym (keep-yes (keeps (args .test)) (at .k) (entryOf (args .t1)) (sym (c .before .keeps .ensures) ∙ w .0 .taken)),
+          ∙ sym (keep-yes (λ (x : model.Successor). above (args .g) (x .label)) (at .k) (entryOf (args .t1)) (sym (c .before .is-above .ensures) ∙ w .0 .taken)),
     ))
     (λ w. (
       omega arith,
       ap rowOf (w .1) ∙ at .inv .1
-          ∙ sym (keep-no (keeps (args .test)) (at .k) (entryOf (args .t1)) (sym (c .before .keeps .ensures) ∙ w .0 .left)),
+          ∙ sym (keep-no (λ (x : model.Successor). above (args .g) (x .label)) (at .k) (entryOf (args .t1)) (sym (c .before .is-above .ensures) ∙ w .0 .left)),
     ))
 
 returns : tie.Need-returns Inv-loop μ-loop
 unfolding rowOf
 returns c = let e : c .before .loop .k ≡ c .before .before .args .t1 .count = omega arith in rw e at (c .before .loop .inv .1)
 
-pub filtered-spec : {M : Type 1} → statement M
-filtered-spec =
+pub under-spec : {M : Type 1} → statement M
+under-spec =
     tie.close
     (tie.spec
     Inv-loop
@@ -82,7 +86,7 @@ filtered-spec =
     element-copy-out-station
     mul-label
     element-copy-out-label
-    keeps-requires
+    is-above-requires
     push-requires
     add-k
     loop-less

@@ -1,0 +1,29 @@
+// The search for a station in a row that a console was shown.
+ghost use mathlib.Core.Path.{_≡_};
+ghost use Rattle.console.specs.Searching.{searching, tellingSearch};
+use crate::packed;
+use layout::entries::read_row;
+use rows::ROW_LIMIT;
+use rows::find;
+
+// Where j stands in the row, and how many places were looked at.
+#[no_mangle]
+pub extern "C" fn srp_find(row: &[u8], j: usize) -> u64
+    ensures { λ r. ⌜ r ≡ tellingSearch j (searching (now (row .entry)) j) ⌝ }
+{
+    if row.len() < 69 {
+        return 1;
+    }
+    let entries = read_row(row, 0);
+    let count = entries.count;
+    if ROW_LIMIT < count {
+        return 1;
+    }
+    if 16 <= j {
+        return 2;
+    }
+    let found = find(entries, count, j as u8);
+    let place = found.place as u32;
+    let looked = found.looked as u32;
+    packed(0, place + 65536 * looked)
+}
