@@ -6,3 +6,4 @@ pub mod ShowLaws
 pub mod ShownLaws
 pub mod GatherLaws
 pub mod PreviewLaws
+pub mod SearchLaws
