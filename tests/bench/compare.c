@@ -2,8 +2,9 @@
  * The speed of two builds of the library and the program, one beside the other. Prints the rows of a
  * table in Markdown.
  *
- * compare LIBRARY PROGRAM OTHER_LIBRARY OTHER_PROGRAM SCRIPT: the libraries as shared objects. SCRIPT
- * is written, for the programs to run.
+ * compare LIBRARY PROGRAM OTHER_LIBRARY OTHER_PROGRAM PACKETS LINKS: the libraries as shared objects.
+ * PACKETS and LINKS are written, for the programs to run: a script of packets and one of links that come
+ * and go.
  *
  * Each round times one build and then the other for some milliseconds, since the machine may not be
  * as fast in the next. A row has the medians of the rounds and of their ratios, and between which the
@@ -35,15 +36,17 @@ typedef uint64_t writing(size_t n, uint64_t start, const uint8_t *kinds, size_t 
 struct build {
     const char *program;
     opening *open;
-    call_on_pair *up, *solicit;
+    call_on_pair *up, *down, *solicit;
     call_on_packet *deliver, *lose, *duplicate;
     reading *read_script;
     writing *write_script;
 };
 
-static uint8_t network[SRP_LENGTH]; /* what each timed call starts from */
+static uint8_t network[SRP_LENGTH]; /* what each timed call starts from: requests in the air, */
+static uint8_t routes[SRP_LENGTH];  /* routes and an empty air, */
+static uint8_t broken[SRP_LENGTH];  /* or the errors of a link that went down */
 static uint8_t events[11 + 3 * EVENTS] = {STATIONS, EVENTS & 255, EVENTS >> 8, 1}; /* a script */
-static const char *script;
+static const char *packets_script, *links_script;
 
 static void fail(const char *what) {
     fprintf(stderr, "compare: %s\n", what);
@@ -62,6 +65,7 @@ static struct build loaded(const char *path, const char *program) {
     return (struct build){program,
                           found(library, "srp_open"),
                           found(library, "srp_up"),
+                          found(library, "srp_down"),
                           found(library, "srp_solicit"),
                           found(library, "srp_deliver"),
                           found(library, "srp_lose"),
@@ -86,14 +90,30 @@ static void fill_network(const struct build *b) {
         if (SRP_REFUSED(b->solicit(network, SRP_LENGTH, i, STATIONS - 1))) fail("solicit");
 }
 
+/* Every station has routes to 0, over all its neighbours in a ring with chords; in `broken` 0 lost its neighbour 1, and the errors are in the air. */
+static void fill_routes(const struct build *b) {
+    if (SRP_REFUSED(b->open(routes, SRP_LENGTH, STATIONS, 1))) fail("open");
+    for (size_t i = 0; i < STATIONS; i++) {
+        b->up(routes, SRP_LENGTH, i, (i + 1) % STATIONS);
+        b->up(routes, SRP_LENGTH, i, (i + 3) % STATIONS);
+    }
+    for (size_t i = 1; i < STATIONS; i++) {
+        if (SRP_REFUSED(b->solicit(routes, SRP_LENGTH, i, 0))) fail("solicit");
+        while (!SRP_REFUSED(b->deliver(routes, SRP_LENGTH, 0))) {}
+    }
+    memcpy(broken, routes, SRP_LENGTH);
+    if (SRP_COUNT(b->down(broken, SRP_LENGTH, 0, 1)) == 0) fail("down: no error sent");
+}
+
 static void put_event(size_t index, size_t kind, size_t a, size_t b) {
     events[11 + index] = (uint8_t)kind;
     events[11 + EVENTS + 2 * index] = (uint8_t)a;
     events[11 + EVENTS + 2 * index + 1] = (uint8_t)b;
 }
 
-/* A script of as many events as may be: links, requests, and packets that arrive, are lost and are doubled. */
-static void write_script(void) {
+/* A script of as many events as may be: links, requests, and packets that arrive, are lost and are doubled; or, one of three, links that go
+   down and come up again. */
+static void write_script(const char *path, int links) {
     uint64_t random = 1;
     size_t made = 0;
     for (size_t a = 0; a < STATIONS; a++)
@@ -102,28 +122,40 @@ static void write_script(void) {
         random = random * 6364136223846793005u + 1442695040888963407u;
         size_t choice = random >> 33 & 15, a = random >> 37 & 15, b = random >> 41 & 15;
         if (choice == 0) put_event(made++, 3, a, b);
+        else if (links) put_event(made++, choice < 12 ? 6 : choice < 14 ? 1 : 2, choice < 12 ? 0 : a, choice < 12 ? 0 : b);
         else put_event(made++, choice < 10 ? 6 : choice < 13 ? 7 : 8, a / 2, 0);
     }
-    FILE *file = fopen(script, "wb");
+    FILE *file = fopen(path, "wb");
     if (!file || fwrite(events, sizeof events, 1, file) != 1 || fclose(file)) fail("the script");
 }
 
-/* Nanoseconds for a call on a copy of the network, the copy included. */
-static double timed_call(call_on_packet *call, size_t k) {
+/* Nanoseconds for a call on a copy of a network, the copy included. */
+static double timed_call(call_on_packet *call, const uint8_t *from, size_t k) {
     static uint8_t memory[SRP_LENGTH];
     double began = now();
     for (int i = 0; i < CALLS; i++) {
-        memcpy(memory, network, SRP_LENGTH);
+        memcpy(memory, from, SRP_LENGTH);
         if (SRP_REFUSED(call(memory, SRP_LENGTH, k))) fail("a call was turned down");
     }
     return (now() - began) / CALLS;
 }
 
-static double broadcast_on(const struct build *b) { return timed_call(b->deliver, 0); }
-static double answered(const struct build *b) { return timed_call(b->deliver, STATIONS - 2); }
-static double first_lost(const struct build *b) { return timed_call(b->lose, 0); }
-static double last_lost(const struct build *b) { return timed_call(b->lose, SEEKERS * (STATIONS - 1) - 1); }
-static double first_doubled(const struct build *b) { return timed_call(b->duplicate, 0); }
+static double broadcast_on(const struct build *b) { return timed_call(b->deliver, network, 0); }
+static double answered(const struct build *b) { return timed_call(b->deliver, network, STATIONS - 2); }
+static double first_lost(const struct build *b) { return timed_call(b->lose, network, 0); }
+static double last_lost(const struct build *b) { return timed_call(b->lose, network, SEEKERS * (STATIONS - 1) - 1); }
+static double first_doubled(const struct build *b) { return timed_call(b->duplicate, network, 0); }
+static double error_delivered(const struct build *b) { return timed_call(b->deliver, broken, 0); }
+
+static double went_down(const struct build *b) {
+    static uint8_t memory[SRP_LENGTH];
+    double began = now();
+    for (int i = 0; i < CALLS; i++) {
+        memcpy(memory, routes, SRP_LENGTH);
+        if (SRP_REFUSED(b->down(memory, SRP_LENGTH, 0, 1))) fail("down");
+    }
+    return (now() - began) / CALLS;
+}
 
 /* Nanoseconds for a script of 4,096 events that is read, and for one that is written. The arrays are not cleared. */
 static double script_read(const struct build *b) {
@@ -143,7 +175,7 @@ static double script_written(const struct build *b) {
 }
 
 /* Nanoseconds for a whole run of the program. */
-static double rehearsed(const struct build *b) {
+static double rehearsed(const struct build *b, const char *script) {
     posix_spawn_file_actions_t actions;
     char *const arguments[] = {(char *)b->program, NULL};
     pid_t child;
@@ -157,6 +189,9 @@ static double rehearsed(const struct build *b) {
     posix_spawn_file_actions_destroy(&actions);
     return took;
 }
+
+static double packets_rehearsed(const struct build *b) { return rehearsed(b, packets_script); }
+static double links_rehearsed(const struct build *b) { return rehearsed(b, links_script); }
 
 static int ascending(const void *a, const void *b) {
     double x = *(const double *)a, y = *(const double *)b;
@@ -177,18 +212,23 @@ static void row(const char *what, double (*timed)(const struct build *), const s
 }
 
 int main(int count, char **arguments) {
-    if (count != 6) fail("usage: compare LIBRARY PROGRAM OTHER_LIBRARY OTHER_PROGRAM SCRIPT");
+    if (count != 7) fail("usage: compare LIBRARY PROGRAM OTHER_LIBRARY OTHER_PROGRAM PACKETS LINKS");
     struct build this = loaded(arguments[1], arguments[2]), other = loaded(arguments[3], arguments[4]);
-    script = arguments[5];
+    packets_script = arguments[5], links_script = arguments[6];
     fill_network(&this);
-    write_script();
+    fill_routes(&this);
+    write_script(links_script, 1);
+    write_script(packets_script, 0);
     row("`srp_deliver` of a request, broadcast on", broadcast_on, &this, &other);
     row("`srp_deliver` of a request, answered", answered, &this, &other);
     row("`srp_lose` of the first of 90 packets", first_lost, &this, &other);
     row("`srp_lose` of the last", last_lost, &this, &other);
     row("`srp_duplicate` of the first", first_doubled, &this, &other);
+    row("`srp_deliver` of an error", error_delivered, &this, &other);
+    row("`srp_down`", went_down, &this, &other);
     row("a script of 4,096 events, read", script_read, &this, &other);
     row("a script of 4,096 events, written", script_written, &this, &other);
-    row("a rehearsal of 4,096 events", rehearsed, &this, &other);
+    row("a rehearsal of 4,096 events", packets_rehearsed, &this, &other);
+    row("a rehearsal of 4,096 events, links that come and go", links_rehearsed, &this, &other);
     return 0;
 }

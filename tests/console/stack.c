@@ -44,6 +44,7 @@ static void call_record(struct frame *f) { f->result = srp_record(f->memory, SRP
 static void call_station(struct frame *f) { f->result = srp_station(f->memory, SRP_LENGTH, f->a, f->out, ROOM); }
 static void call_packet(struct frame *f) { f->result = srp_packet(f->memory, SRP_LENGTH, f->k, f->out, ROOM); }
 static void call_preview(struct frame *f) { f->result = srp_preview(f->memory, SRP_LENGTH, f->k, f->out, ROOM); }
+static void call_find(struct frame *f) { f->result = srp_find(f->memory + SRP_ROW_AT(8, 0), SRP_ROW_BYTES, f->a); }
 static void call_new_label(struct frame *f) { f->result = srp_new_label(1, 2, 3, 1, 2, 3, 1, 1, 2); }
 static void call_read_script(struct frame *f)
 {
@@ -190,6 +191,8 @@ int main(void)
     report("srp_trace", most_trace);
     for (size_t i = 0; i < sizeof calls / sizeof calls[0]; i++) report(calls[i].name, calls[i].most);
     report("srp_script_start", needed_by(&f, call_script_start));
+    report("srp_find", needed_by(&f, call_find));
+    must(!SRP_REFUSED(f.result), "srp_find");
     report("srp_new_label", needed_by(&f, call_new_label));
     return 0;
 }

@@ -87,11 +87,11 @@ pub fn read(bytes: &[u8]) -> Memory
         d: d,
         rows: rows,
         records: records,
-        air: air,
         numbers: numbers,
         sought: sought,
         active: active,
         links: links,
+        air: air,
         n: n,
     }
 }

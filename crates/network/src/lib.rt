@@ -51,10 +51,10 @@ pub struct Memory {
     pub d: [u32; 256],
     pub rows: [Row; 256],
     pub records: [Record; 256],
-    pub air: Air,
     pub numbers: [RequestNumber; 16],
     pub sought: [u8; 16],
     pub active: [bool; 16],
     pub links: [bool; 256],
+    pub air: Air,
     pub n: u8,
 }

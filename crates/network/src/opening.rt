@@ -79,11 +79,11 @@ pub fn fresh(n: u8, start: u64) -> Memory
         d: d,
         rows: rows,
         records: records,
-        air: air,
         numbers: numbers,
         sought: sought,
         active: active,
         links: links,
+        air: air,
         n: n,
     }
 }

@@ -98,23 +98,22 @@ fn under(row: Row, g: Label) -> Row
 }
 
 // The row without the entry at a place: later ones move up.
-fn remove_at(row: Row, place: u8) -> Row
+fn remove_at(mut row: Row, place: u8) -> Row
     requires { ⌜ (place < row .count) × (row .count ≤ rowLimit) ⌝ }
     ensures { λ r. ⌜ rowOf r ≡ removeAt place (rowOf row) ⌝ }
 {
     let count = row.count - 1;
     let last = count as usize;
-    let mut next = row;
-    next.count = count;
+    row.count = count;
     let mut k = place as usize;
     while k < last {
-        let station = next.stations[k + 1];
-        let label = next.labels[k + 1];
-        next.stations[k] = station;
-        next.labels[k] = label;
+        let station = row.stations[k + 1];
+        let label = row.labels[k + 1];
+        row.stations[k] = station;
+        row.labels[k] = label;
         k += 1;
     }
-    next
+    row
 }
 
 // The row with room for one more: the first entry leaves a full row.

@@ -12,11 +12,11 @@ use Rattle.rows.proofs.remove_at.Statement.{statement}
 use Rattle.rows.proofs.remove_at.Tie as tie
 
 abbrev Inv-loop : tie.InvT-loop
-Inv-loop place count last next₀ k₀ next k = (place ≤ k) × (k ≤ last) × (next .count ≡ count)
-    × (next .stations ≡ removed place k (next₀ .stations)) × (next .labels ≡ removed place k (next₀ .labels))
+Inv-loop place row₀ count last k₀ row k = (place ≤ k) × (k ≤ last) × (row .count ≡ count)
+    × (row .stations ≡ removed place k (row₀ .stations)) × (row .labels ≡ removed place k (row₀ .labels))
 
 abbrev μ-loop : tie.MeasureT-loop
-μ-loop place count last next₀ k₀ next k = last - k
+μ-loop place row₀ count last k₀ row k = last - k
 
 sub-count : tie.Need-sub-count Inv-loop μ-loop
 sub-count c = search needs
@@ -42,8 +42,8 @@ mul-label c = search needs
 element-copy-out-label : tie.Need-element-copy-out-label Inv-loop μ-loop
 element-copy-out-label c = search needs
 
-element-write-next : tie.Need-element-write-next Inv-loop μ-loop
-element-write-next c = search needs
+element-write-row : tie.Need-element-write-row Inv-loop μ-loop
+element-write-row c = search needs
 
 mul-label-2 : tie.Need-mul-label-2 Inv-loop μ-loop
 mul-label-2 c = search needs
@@ -59,8 +59,8 @@ loop-less c = search needs
 
 loop-again : tie.Need-loop-again Inv-loop μ-loop
 loop-again c =
-    let start = c .before .before .before .before .before in
-    let long = row-lengths (start .args .row) (start .good .0) in
+    let start = c .before .before .before .before in
+    let long = row-lengths (start .args .t1) (start .good .0) in
     let inv = c .before .before .before .loop .inv in (
       omega arith,
       omega arith,
@@ -71,11 +71,11 @@ loop-again c =
 
 returns : tie.Need-returns Inv-loop μ-loop
 returns c =
-    let start = c .before .before .before in
-    let row = start .args .row in
+    let start = c .before .before in
+    let row = start .args .t1 in
     let loop = c .before .loop in
     let last : loop .k ≡ row .count - 1 = omega arith in
-    row-removed row (loop .next) (row-lengths row (start .good .0)) (start .args .place) (row .count - 1) (omega arith) (omega arith) (omega arith)
+    row-removed row (loop .row) (row-lengths row (start .good .0)) (start .args .place) (row .count - 1) (omega arith) (omega arith) (omega arith)
     (loop .inv .2) (rw last at (loop .inv .3)) (rw last at (loop .inv .4))
 
 pub remove-at-spec : {M : Type 1} → statement M
@@ -92,7 +92,7 @@ remove-at-spec =
     add-label
     mul-label
     element-copy-out-label
-    element-write-next
+    element-write-row
     mul-label-2
     element-set-from-label
     add-k
