@@ -154,23 +154,22 @@ fn is_between(p: Packet, a: u8, b: u8) -> bool
 }
 
 // The first `count` packets without those between a and b, the others in their order.
-pub fn without_between(packets: [Packet; AIR_LIMIT as usize], count: u8, a: u8, b: u8) -> Air
+pub fn without_between(mut packets: [Packet; AIR_LIMIT as usize], count: u8, a: u8, b: u8) -> Air
     requires { ⌜ count ≤ airLimit ⌝ }
     ensures { λ r. ⌜ airOf r ≡ dropBetween a b (packetsOf packets count) ⌝ }
 {
-    let mut next = packets;
     let mut left = 0;
     let mut k = 0;
     while k < count {
         let p = packets[k as usize];
         if !is_between(p, a, b) {
-            next[left as usize] = p;
+            packets[left as usize] = p;
             left += 1;
         }
         k += 1;
     }
     Air {
-        packets: next,
+        packets: packets,
         count: left,
     }
 }

@@ -72,9 +72,8 @@ pub fn run(mut memory: Memory, kinds: &[u8], operands: &[u8], lines: &mut [u64])
     ensures fits { λ _. ⌜ ToldFit (view memory) (now (kinds .entry)) (now (operands .entry)) (length (now (kinds .entry))) ⌝ }
     ensures told { λ _. ⌜ now (lines .exit) ≡ sets (now (lines .entry)) 0 (tabulate (length (now (kinds .entry))) (told (view memory) (now (kinds .entry)) (now (operands .entry)))) ⌝ }
 {
-    let air = memory.air;
-    let mut packets = air.packets;
-    let mut count = air.count;
+    let mut packets = memory.air.packets;
+    let mut count = memory.air.count;
     let mut i = 0;
     while i < kinds.len() {
         let event = event_at(kinds, operands, i);

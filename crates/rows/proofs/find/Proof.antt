@@ -11,7 +11,7 @@ abbrev Inv-loop : tie.InvT-loop
 Inv-loop count j row place₀ looked₀ place looked = (place ≤ count) × Search row count j place looked
 
 abbrev μ-loop : tie.MeasureT-loop
-μ-loop count j row place₀ looked₀ place looked = place - looked
+μ-loop count j row place₀ looked₀ place looked = count - looked
 
 loop-holds : tie.Need-loop-holds Inv-loop μ-loop
 loop-holds c = (omega arith, search-none)
@@ -26,7 +26,7 @@ add-looked : tie.Need-add-looked Inv-loop μ-loop
 add-looked c = search needs
 
 loop-less : tie.Need-loop-less Inv-loop μ-loop
-loop-less c = cases (c .if1 .came) (λ w. omega arith) (λ w. omega arith)
+loop-less c = omega arith
 
 loop-again : tie.Need-loop-again Inv-loop μ-loop
 loop-again c =

@@ -74,7 +74,7 @@ Of p = p Inv-loop2 μ-loop2 Inv-loop3 μ-loop3 Inv-loop4 μ-loop4 Inv-loop μ-lo
 
 -- From a place of the turn back to an earlier one.
 abbrev begin : Of tie.At-loop → Of tie.Start
-begin c = c .before .before .before .before .before .before
+begin c = c .before .before .before .before .before
 
 abbrev turn : Of tie.After-class-of → Of tie.At-loop
 turn c = c .before .before .before .before .before .before .before .before .before .before
@@ -501,7 +501,7 @@ module _ (c : Of tie.After-line7) (packets : List Packet) where
 
 -- Before the first event, and the tests of one.
 loop-holds : Of tie.Need-loop-holds
-loop-holds c = (omega arith, turn-none (start-shape (c .before .before .before .before .before)))
+loop-holds c = (omega arith, turn-none (start-shape (c .before .before .before .before)))
 
 event-at-requires : Of tie.Need-event-at-requires
 event-at-requires c κs = (omega (arith, c .loop-test), omega (arith, c .loop-test, begin (c .before) .pre .1))
