@@ -5,7 +5,7 @@ use mathlib.Core.Logic.{_≢_}
 use mathlib.Core.Bool.{Bool, true, false, not, _&&_, _||_, and-true, and-assoc}
 use mathlib.Core.List.{List, [], _∷_, _++_, map, tail, append-nil, map-append, append-assoc}
 use lib.ListN.{length, getD, set, take, drop, replicate, take-append-drop, length-append, length-take, length-drop, length-set, length-replicate, length-map, getD-replicate, List·getD-append, List·getD-eq-default, List·getD-map}
-use lib.Seq.{ext-getD, getD-at, getD-take, getD-set-same, getD-set-other, length-take-le, take-suc-set, take-all, slice-empty}
+use lib.Seq.{ext-getD, getD-at, getD-take, getD-set-same, getD-set-other, length-take-le, take-at, take-suc-set, take-all, slice-empty}
 use lib.Dec.{ltb, leb, eqb}
 use native.Mathlib.Numerals.{add-one}
 use native.Mathlib.Omega.{arith}
@@ -236,26 +236,29 @@ module _ {A : Type 0} where
   removed-length (suc k) zero (x ∷ l) h g = absurd (omega arith)
   removed-length (suc k) (suc last) (x ∷ l) h g = ap suc (removed-length k last l (omega arith) (omega arith))
 
-  -- Then each place before k is as it was, and each from k on has what stood after it.
-  removed-before : (k last : ℕ) (l : List A) (d : A) → k ≤ last → last < length l → (i : ℕ) → i < k → getD (removed k last l) i d ≡ getD l i d
+  removed-first : (k last : ℕ) (l : List A) → k ≤ last → last < length l → take last (removed k last l) ≡ removeAt k (take (suc last) l)
   unfolding removed
-  removed-before k last [] d h g i m = absurd (omega arith)
-  removed-before zero last (x ∷ l) d h g i m = absurd (omega arith)
-  removed-before (suc k) zero (x ∷ l) d h g i m = absurd (omega arith)
-  removed-before (suc k) (suc last) (x ∷ l) d h g zero m = refl
-  removed-before (suc k) (suc last) (x ∷ l) d h g (suc i) m = removed-before k last l d (omega arith) (omega arith) i (omega arith)
+  removed-first k last [] h g = absurd (omega arith)
+  removed-first zero last (x ∷ l) h g = take-at (take last l) (drop last (x ∷ l)) last (length-take-le last l (omega arith))
+  removed-first (suc k) zero (x ∷ l) h g = absurd (omega arith)
+  removed-first (suc k) (suc last) (x ∷ l) h g = ap (λ (r : List A). x ∷ r) (removed-first k last l (omega arith) (omega arith))
 
-  removed-after : (k last : ℕ) (l : List A) (d : A) → k ≤ last → last < length l → (i : ℕ) → k ≤ i → i < last → getD (removed k last l) i d ≡ getD l (suc i) d
-  unfolding removed
-  removed-after k last [] d h g i m n = absurd (omega arith)
-  removed-after zero last (x ∷ l) d h g i m n = List·getD-append (take last l) _ d i (omega (arith, length-take-le last l (omega arith))) ∙ getD-take last l i d n
-  removed-after (suc k) zero (x ∷ l) d h g i m n = absurd (omega arith)
-  removed-after (suc k) (suc last) (x ∷ l) d h g zero m n = absurd (omega arith)
-  removed-after (suc k) (suc last) (x ∷ l) d h g (suc i) m n = removed-after k last l d (omega arith) (omega arith) i (omega arith) (omega arith)
+-- Where element i of a list without element k stands in the whole list.
+abbrev pub skipping : ℕ → ℕ → ℕ
+skipping k i = if ltb i k then i else suc i
 
-  pub removed-at : (k last : ℕ) (l : List A) (d : A) → k ≤ last → last < length l → (i : ℕ) → i < last → getD (removed k last l) i d ≡ getD l (if ltb i k then i else suc i) d
-  removed-at k last l d h g i m = choose (λ (x : ℕ). getD (removed k last l) i d ≡ getD l x d) (ltb i k)
-      (λ e. removed-before k last l d h g i (ltb-true i k e)) (λ e. removed-after k last l d h g i (ltb-false i k e) m)
+-- A list without element k.
+module _ {A : Type 0} where
+  pub removeAt-at : (k : ℕ) (l : List A) (i : ℕ) (d : A) → getD (removeAt k l) i d ≡ getD l (skipping k i) d
+  removeAt-at zero [] i d = refl
+  removeAt-at (suc k) [] i d = refl
+  removeAt-at zero (x ∷ l) i d = rw (le-ltb i 0 (omega arith))
+  removeAt-at (suc k) (x ∷ l) zero d = rw (lt-ltb 0 (suc k) (omega arith))
+  removeAt-at (suc k) (x ∷ l) (suc i) d = removeAt-at k l i d ∙ go (ltb i k) refl
+    where
+      go : (b : Bool) → ltb i k ≡ b → getD l (if b then i else suc i) d ≡ getD (x ∷ l) (if ltb (suc i) (suc k) then suc i else suc (suc i)) d
+      go true e = let h = ltb-true i k e in rw (lt-ltb (suc i) (suc k) (omega arith))
+      go false e = let h = ltb-false i k e in rw (le-ltb (suc i) (suc k) (omega arith))
 
   pub length-removeAt : (k : ℕ) (l : List A) → k < length l → length (removeAt k l) ≡ length l - 1
   length-removeAt k l h = length-append (take k l) (drop (suc k) l) ∙ rw (length-take k l, length-drop (suc k) l) (omega arith)
@@ -264,33 +267,20 @@ module _ {A : Type 0} where
   removeAt-first [] = refl
   removeAt-first (x ∷ l) = refl
 
-  -- Element k removed from a list with one more, before its last element and at it.
-  removeAt-within : (k : ℕ) (l m : List A) → k < length l → removeAt k (l ++ m) ≡ removeAt k l ++ m
-  removeAt-within k [] m h = absurd (omega arith)
-  removeAt-within zero (x ∷ l) m h = refl
-  removeAt-within (suc k) (x ∷ l) m h = ap (λ (r : List A). x ∷ r) (removeAt-within k l m (omega arith))
-
-  removeAt-last : (k : ℕ) (l : List A) (x : A) → length l ≡ k → removeAt k (l ++ (x ∷ [])) ≡ l
-  removeAt-last zero [] x h = refl
-  removeAt-last (suc k) [] x h = absurd (omega arith)
-  removeAt-last zero (y ∷ l) x h = absurd (omega arith)
-  removeAt-last (suc k) (y ∷ l) x h = ap (λ (r : List A). y ∷ r) (removeAt-last k l x (omega arith))
-
   -- The values at all places but k.
-  pub tabulate-removeAt : (c k : ℕ) (f : ℕ → A) → k ≤ c → tabulate c (λ i. f (if ltb i k then i else suc i)) ≡ removeAt k (tabulate (suc c) f)
-  unfolding tabulate
-  tabulate-removeAt zero zero f h = refl
-  tabulate-removeAt zero (suc k) f h = absurd (omega arith)
-  tabulate-removeAt (suc c) k f h = go (trichotomy k (suc c)) (λ l. tabulate-removeAt c k f l)
-    where
-      go : Trichotomy k (suc c) → (k ≤ c → tabulate c (λ i. f (if ltb i k then i else suc i)) ≡ removeAt k (tabulate (suc c) f))
-          → tabulate (suc c) (λ i. f (if ltb i k then i else suc i)) ≡ removeAt k (tabulate (suc c) f ++ (f (suc c) ∷ []))
-      go (less l) ih =
-          rw (ih (omega arith), le-ltb c k (omega arith)) (sym (removeAt-within k (tabulate (suc c) f) (f (suc c) ∷ []) (omega (arith, tabulate-length (suc c) f))))
-      go (equal q) ih =
-          tabulate-same (suc c) _ f (λ i m. rw (lt-ltb i k (omega arith)))
-          ∙ sym (removeAt-last k (tabulate (suc c) f) (f (suc c)) (tabulate-length (suc c) f ∙ sym q))
-      go (more l) ih = absurd (omega arith)
+  pub tabulate-removeAt : (c k : ℕ) (f : ℕ → A) → k ≤ c → tabulate c (λ i. f (skipping k i)) ≡ removeAt k (tabulate (suc c) f)
+  tabulate-removeAt c k f h =
+      let long = tabulate-length (suc c) f in
+      tabulate-is (removeAt k (tabulate (suc c) f)) c (λ i. f (skipping k i)) (f 0)
+      (length-removeAt k (tabulate (suc c) f) (omega arith) ∙ omega arith)
+      (λ i m. sym (removeAt-at k (tabulate (suc c) f) i (f 0) ∙ tabulate-at (suc c) f (skipping k i) (f 0)
+      (choose (λ (x : ℕ). x < suc c) (ltb i k) (λ e. omega arith) (λ e. omega arith))))
+
+-- So in an array whose elements after k moved up.
+pub removed-at : {A : Type 0} (k last : ℕ) (l : List A) (d : A) → k ≤ last → last < length l → (i : ℕ) → i < last → getD (removed k last l) i d ≡ getD l (skipping k i) d
+removed-at k last l d h g i m =
+    sym (getD-take last (removed k last l) i d m) ∙ ap (λ r. getD r i d) (removed-first k last l h g) ∙ removeAt-at k (take (suc last) l) i d
+    ∙ getD-take (suc last) l (skipping k i) d (choose (λ (x : ℕ). x < suc last) (ltb i k) (λ e. omega arith) (λ e. omega arith))
 
 -- Then the first `last` elements are the list without element k.
 pub tabulate-removed : {A B : Type 0} (f : A → B) (k last : ℕ) (d : A) (l : List A) → k ≤ last → last < length l

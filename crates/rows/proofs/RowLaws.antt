@@ -5,14 +5,12 @@ use mathlib.Core.Logic.{_≢_}
 use mathlib.Core.Bool.{true, not}
 use mathlib.Core.List.{List, [], _∷_, _++_}
 use lib.ListN.{length, getD, set}
-use lib.Dec.{ltb}
 use lib.Seq.{getD-set-same, getD-set-other}
 use native.Mathlib.Omega.{arith}
 use borrow.Author.Tests.{eq-eqb, ne-eqb}
-use Rattle.base.specs.Choice.{if_then_else_}
 use Rattle.base.specs.Lists.{tabulate, removeAt, removed}
 use Rattle.base.proofs.Lists.{keep-length}
-use Rattle.base.proofs.Loops.{tabulate-length, tabulate-more, tabulate-same, tabulate-set, removed-at, tabulate-removeAt}
+use Rattle.base.proofs.Loops.{tabulate-length, tabulate-more, tabulate-same, tabulate-set, skipping, tabulate-removeAt, removed-at}
 use Rattle.label.specs.declared.Label.{Label}
 use Rattle.label.specs.Label.{label, above}
 use Rattle.model.specs.Memory as model
@@ -88,7 +86,7 @@ unfolding rowOf entryOf
 row-removed row next long place last h few q e stations labels =
     let f : ℕ → model.Successor = entryOf row in
     ap (λ c. tabulate c (entryOf next)) e
-    ∙ tabulate-same last (entryOf next) (λ i. f (if ltb i place then i else suc i))
+    ∙ tabulate-same last (entryOf next) (λ i. f (skipping place i))
     (λ i m. ap₂ (λ (s : ℕ) (l : Label). successor s l)
     (ap (λ (l : List ℕ). getD l i 0) stations ∙ removed-at place last (row .stations) 0 h (omega (arith, long .stations-length)) i m)
     (ap (λ (l : List Label). getD l i (label 0 0 0)) labels ∙ removed-at place last (row .labels) (label 0 0 0) h (omega (arith, long .labels-length)) i m))
