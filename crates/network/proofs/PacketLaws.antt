@@ -1,6 +1,6 @@
 -- Laws of the packets in the air read as a list.
 use Prim.Native.Nat.{ℕ, _+_, _≤_, _<_}
-use mathlib.Core.Path.{_≡_, ap, ap₂, _∙_}
+use mathlib.Core.Path.{_≡_, sym, ap, ap₂, _∙_}
 use mathlib.Core.Bool.{Bool, not}
 use mathlib.Core.List.{List, [], _∷_, _++_}
 use lib.ListN.{length, getD, set, length-set}
@@ -68,3 +68,6 @@ held-more l packets count h p small = record {
   room = length-set packets count p ∙ h .room;
   list = appended packets count p (h .room) small ∙ ap (λ (x : List model.Packet). x ++ (packetOf p ∷ [])) (h .list);
 }
+
+pub held-list : (l : List model.Packet) (packets : List Packet) (count : ℕ) → Held l packets count → packetsOf packets (length l) ≡ l
+held-list l packets count h = rw (ap length (sym (h .list)) ∙ packets-count packets count) (h .list)

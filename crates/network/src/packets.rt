@@ -6,9 +6,8 @@ ghost use lib.ListN.{length, set};
 ghost use Rattle.base.specs.Lists.{below, removed};
 ghost use Rattle.model.specs.Memory.{linkIn, request, reply, error, airLimit};
 ghost use Rattle.model.specs.Calls.{packet, between, dropBetween};
-ghost use Rattle.network.specs.View.{bodyOf, packetOf, packetsOf, airOf};
+ghost use Rattle.network.specs.View.{bodyOf, packetOf, packetsOf};
 use crate::AIR_LIMIT;
-use crate::Air;
 use crate::Packet;
 use crate::RequestNumber;
 use crate::links::joined;
@@ -153,25 +152,45 @@ fn is_between(p: Packet, a: u8, b: u8) -> bool
     (sender == a) & (receiver == b) | (sender == b) & (receiver == a)
 }
 
-// The first `count` packets without those between a and b, the others in their order.
-pub fn without_between(mut packets: [Packet; AIR_LIMIT as usize], count: u8, a: u8, b: u8) -> Air
+// How many of the first `count` packets are not between a and b.
+pub fn apart_count(packets: [Packet; AIR_LIMIT as usize], count: u8, a: u8, b: u8) -> u8
     requires { ⌜ count ≤ airLimit ⌝ }
-    ensures { λ r. ⌜ airOf r ≡ dropBetween a b (packetsOf packets count) ⌝ }
+    ensures { λ r. ⌜ r ≡ length (dropBetween a b (packetsOf packets count)) ⌝ }
 {
     let mut left = 0;
     let mut k = 0;
     while k < count {
         let p = packets[k as usize];
         if !is_between(p, a, b) {
-            packets[left as usize] = p;
             left += 1;
         }
         k += 1;
     }
-    Air {
-        packets: packets,
-        count: left,
+    left
+}
+
+// The first `count` packets without those between a and b, the others in their order.
+pub fn without_between(
+    packets: [Packet; AIR_LIMIT as usize],
+    count: u8,
+    a: u8,
+    b: u8,
+) -> [Packet; AIR_LIMIT as usize]
+    requires { ⌜ count ≤ airLimit ⌝ }
+    ensures { λ r. ⌜ packetsOf r (length (dropBetween a b (packetsOf packets count))) ≡ dropBetween a b (packetsOf packets count) ⌝ }
+{
+    let mut next = packets;
+    let mut left: u8 = 0;
+    let mut k = 0;
+    while k < count {
+        let p = packets[k as usize];
+        if !is_between(p, a, b) {
+            next[left as usize] = p;
+            left += 1;
+        }
+        k += 1;
     }
+    next
 }
 
 // The packets with one copy of p for each up neighbour of a, ascending, from place `count` on.

@@ -13,6 +13,7 @@ ghost use Rattle.station.specs.Reacting.{sentBy};
 ghost use Rattle.steps.specs.Parting.{restOf};
 use network::AIR_LIMIT;
 use network::Packet;
+use network::packets::apart_count;
 use network::packets::without_between;
 use station::sending::copies;
 use station::sending::transmit;
@@ -41,16 +42,16 @@ pub fn left_of(
     ensures { λ r. ⌜ r ≡ length (restOf kind (packetsOf packets count) k a b) ⌝ }
 {
     if kind == 2 {
-        let rest = without_between(packets, count, a, b);
-        return rest.count;
+        return apart_count(packets, count, a, b);
     }
     count - 1
 }
 
-// The packets that are not between a and b, with what a, then b, sends.
+// The packets that are not between a and b, of which there are `left`, with what a, then b, sends.
 pub fn parted(
     packets: [Packet; AIR_LIMIT as usize],
     count: u8,
+    left: u8,
     links: [bool; 256],
     n: u8,
     a: u8,
@@ -60,14 +61,12 @@ pub fn parted(
     other: u8,
     q: Packet,
 ) -> [Packet; AIR_LIMIT as usize]
-    requires { ⌜ (n ≤ 16) × (a < 16) × (b < 16) × (count ≤ airLimit) ⌝ }
+    requires { ⌜ (n ≤ 16) × (a < 16) × (b < 16) × (count ≤ airLimit) × (left ≡ length (dropBetween a b (packetsOf packets count))) ⌝ }
     requires { ⌜ length (dropBetween a b (packetsOf packets count)) + length (sentBy scope links n a p) + length (sentBy other links n b q) ≤ airLimit ⌝ }
     ensures { λ r. ⌜ packetsOf r (length (dropBetween a b (packetsOf packets count)) + length (sentBy scope links n a p) + length (sentBy other links n b q))
         ≡ (dropBetween a b (packetsOf packets count) ++ sentBy scope links n a p) ++ sentBy other links n b q ⌝ }
 {
-    let rest = without_between(packets, count, a, b);
-    let kept = rest.packets;
-    let left = rest.count;
+    let kept = without_between(packets, count, a, b);
     let sent = copies(scope, links, n, a, p);
     let told = transmit(kept, left, scope, links, n, a, p);
     transmit(told, left + sent, other, links, n, b, q)

@@ -169,7 +169,19 @@ pub fn run(mut memory: Memory, kinds: &[u8], operands: &[u8], lines: &mut [u64])
                 let answer = cut_answer(kind, losses.removed, losses.emptied);
                 lines[at] = line(answer, sent + more, total, 0);
                 if kind == 2 {
-                    packets = parted(packets, count, links, n, first, scope, q, second, other, z);
+                    packets = parted(
+                        packets,
+                        count,
+                        left,
+                        links,
+                        n,
+                        first,
+                        scope,
+                        q,
+                        second,
+                        other,
+                        z,
+                    );
                 } else {
                     packets = exchange(packets, left, k, scope, links, n, first, q);
                 }

@@ -1,17 +1,8 @@
 -- `parting::parted` meets its contract.
-use mathlib.Core.Path.{_≡_, sym, ap, _∙_}
-use lib.ListN.{length}
-use native.Mathlib.Omega.{arith}
+use mathlib.Core.Path.{_∙_}
 use borrow.Author.Needs.{needs}
-use Rattle.model.specs.Calls.{dropBetween}
-use Rattle.network.specs.View.{packetsOf}
-use Rattle.network.proofs.PacketLaws.{air-length}
 use Rattle.steps.proofs.parting.parted.Statement.{statement}
 use Rattle.steps.proofs.parting.parted.Tie as tie
-
--- So many packets are left.
-count-is : (c : tie.After-without-between) → let x = c .before .args in length (dropBetween (x .a) (x .b) (packetsOf (x .packets) (x .count))) ≡ c .without-between .result .count
-count-is c = sym (ap length (c .without-between .ensures)) ∙ air-length (c .without-between .result)
 
 without-between-requires : tie.Need-without-between-requires
 without-between-requires c κs = search needs
@@ -20,24 +11,20 @@ copies-requires : tie.Need-copies-requires
 copies-requires c κs = search needs
 
 transmit-requires : tie.Need-transmit-requires
-transmit-requires c κs =
-    let room = rw (count-is (c .before .before)) at (c .before .before .before .pre .1) in
-    ((omega arith, omega arith), omega (arith, room))
+transmit-requires c κs = search needs
 
 add-transmit : tie.Need-add-transmit
-add-transmit c =
-    let room = rw (count-is (c .before .before .before), ← c .before .copies .ensures) at (c .before .before .before .before .pre .1) in
-    search needs
+add-transmit c = search needs
 
 transmit-requires-2 : tie.Need-transmit-requires-2
-transmit-requires-2 c κs =
-    let room = rw (count-is (c .before .before .before), ← c .before .copies .ensures) at (c .before .before .before .before .pre .1) in
-    ((omega arith, omega arith), room)
+transmit-requires-2 c κs = search needs
 
 returns : tie.Need-returns
 returns c =
-    rw (count-is (c .before .before .before .before), ← c .before .before .copies .ensures)
-    (c .transmit2 .ensures ∙ rw (c .before .before .copies .ensures, c .before .transmit .ensures, c .before .before .before .before .without-between .ensures))
+    let sent = c .before .before .copies .ensures in
+    let rest = c .before .before .before .without-between .ensures in
+    let left-is = c .before .before .before .before .pre .0 .4 in
+    rw (← left-is, ← sent) (c .transmit2 .ensures ∙ rw (sent, c .before .transmit .ensures, left-is, rest))
 
 pub parted-spec : {M : Type 1} → statement M
 parted-spec =

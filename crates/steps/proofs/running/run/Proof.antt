@@ -841,7 +841,7 @@ parted-requires c κs =
     let here = decided (c .before) in
     let k = both (cut-rows-read here) in
     let rest = cut-stays here .left-of .ensures ∙ ap length (rest-down _ _ _ _ _ _ (c .if7 .taken)) in
-    ((k .0, k .1, k .2, known (turn (cut-tests here)) .air-count), omega (arith, fits (cut-has-room (c .before)), rest, here .before .copies .ensures, here .copies2 .ensures))
+    ((k .0, k .1, k .2, known (turn (cut-tests here)) .air-count, rest), omega (arith, fits (cut-has-room (c .before)), rest, here .before .copies .ensures, here .copies2 .ensures))
 
 exchange-requires : Of tie.Need-exchange-requires
 exchange-requires c κs =
