@@ -18,7 +18,7 @@
  * function's comment says, and 0 where the call is turned down. srp_new_label and srp_script_start have
  * results of their own.
  *
- * STACK. A call uses the caller's stack and allocates nothing. Up to 184,976 bytes were measured
+ * STACK. A call uses the caller's stack and allocates nothing. Up to 184,632 bytes were measured
  * (docs/LAYOUT.md, "Stack"); the library's tests fail where a call needs over 262,144.
  *
  * LINKING. The library needs memcpy and memset, and no other function.

@@ -9,10 +9,11 @@ use differential::program::root;
 use differential::random::Random;
 use differential::scripts::{styled, Script, STYLES};
 use reference::label::{Label, UNASSIGNED};
-use reference::network::{Bytes, Network, LENGTH, MAX_STATIONS};
+use reference::network::{Bytes, Network, Row, Successor, LENGTH, MAX_STATIONS, MAX_SUCCESSORS};
 use reference::script::{DELIVER, MAX_EVENTS};
 use std::hint::black_box;
 use std::io::Write;
+use std::mem::size_of;
 use std::path::Path;
 use std::process::{Command, Stdio};
 use std::time::Instant;
@@ -268,7 +269,24 @@ fn bench_previews(scripts: &[(String, Script)]) {
     }
 }
 
-// ---- New label and scripts
+// ---- Rows, New label and scripts
+
+/// A full row as the layout has it, searched for its first station, its last one, and one that it does not name.
+fn bench_rows() {
+    const TURNS: usize = 100_000;
+    heading("Nanoseconds for each search of a row of four entries.");
+    let mut row = [0; size_of::<Row>()];
+    row[0] = MAX_SUCCESSORS as u8;
+    for entry in 0..MAX_SUCCESSORS {
+        row[1 + entry * size_of::<Successor>()] = 3 + entry as u8;
+    }
+    let search = |find: fn(&[u8], usize) -> u64, station| {
+        timed(TURNS, || (0..TURNS).for_each(|_| assert_eq!(answer_of(find(black_box(&row), black_box(station))), 0)))
+    };
+    for (what, station) in [("its first station", 3), ("its last station", 6), ("a station that it does not name", 9)] {
+        Times::of(|| (search(library::find, station), search(reference::console::find, station))).print(what);
+    }
+}
 
 fn label_times(new_label: fn(Label, Label, Label) -> u64, triples: &[[Label; 3]]) -> f64 {
     const TURNS: usize = 20;
@@ -329,6 +347,7 @@ fn main() {
     bench_parts(&scripts);
     bench_calls(&scripts);
     bench_previews(&scripts);
+    bench_rows();
     bench_labels();
     bench_script_bytes(&scripts[0].1);
 }
