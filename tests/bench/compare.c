@@ -90,7 +90,7 @@ static void fill_network(const struct build *b) {
         if (SRP_REFUSED(b->solicit(network, SRP_LENGTH, i, STATIONS - 1))) fail("solicit");
 }
 
-/* Every station has routes to 0, over all its neighbours in a ring with chords; in `broken` 0 lost its neighbour 1, and the errors are in the air. */
+/* Every station of a ring with chords sought 0, and all was delivered; in `broken` 0 lost its neighbour 1, and the errors are in the air. */
 static void fill_routes(const struct build *b) {
     if (SRP_REFUSED(b->open(routes, SRP_LENGTH, STATIONS, 1))) fail("open");
     for (size_t i = 0; i < STATIONS; i++) {
@@ -111,8 +111,8 @@ static void put_event(size_t index, size_t kind, size_t a, size_t b) {
     events[11 + EVENTS + 2 * index + 1] = (uint8_t)b;
 }
 
-/* A script of as many events as may be: links, requests, and packets that arrive, are lost and are doubled; or, one of three, links that go
-   down and come up again. */
+/* A script of as many events as may be: links, requests, and packets that arrive, are lost and are doubled; or requests, packets that arrive, and,
+   one event of four, links that go down and come up. */
 static void write_script(const char *path, int links) {
     uint64_t random = 1;
     size_t made = 0;

@@ -175,17 +175,6 @@ unfolding someIn keep
 all-kept f [] h = refl
 all-kept f (x ∷ l) h = let w = neither (f x) (someIn f l) h in rw (w .0, all-kept f l (w .1))
 
--- Nothing is left where every element leaves.
-pub none-kept : {A : Type 0} (f : A → Bool) (l : List A) → isEmpty (keep (λ x. not (f x)) l) ≡ allIn f l
-unfolding isEmpty keep allIn
-none-kept f [] = refl
-none-kept f (x ∷ l) = go (f x) (none-kept f l)
-  where
-    go : (b : Bool) → isEmpty (keep (λ x. not (f x)) l) ≡ allIn f l
-        → isEmpty (if not b then x ∷ keep (λ x. not (f x)) l else keep (λ x. not (f x)) l) ≡ b && allIn f l
-    go true e = e
-    go false e = refl
-
 -- A list in which no number stands twice, as the absence of its first from the rest.
 pub distinct-cons : (x : ℕ) (l : List ℕ) → (List·Memᴰ x l → ⊥) → distinct l ≡ true → distinct (x ∷ l) ≡ true
 unfolding distinct

@@ -203,10 +203,6 @@ map-tabulate {A} {B} g (suc c) f = map-append g (tabulate c f) (f c ∷ []) ∙ 
 pub tabulate-map : {A B : Type 0} (f : A → B) (l : List A) (c : ℕ) (d : A) → length l ≡ c → tabulate c (λ k. f (getD l k d)) ≡ map f l
 tabulate-map f l c d e = tabulate-is (map f l) c (λ k. f (getD l k d)) (f d) (length-map l f ∙ e) (λ k m. sym (List·getD-map f l k d))
 
--- The same of the first elements of a list.
-pub tabulate-take : {A B : Type 0} (f : A → B) (l : List A) (c : ℕ) (d : A) → c ≤ length l → tabulate c (λ k. f (getD l k d)) ≡ map f (take c l)
-tabulate-take f l c d h = tabulate-same c _ _ (λ k m. ap f (sym (getD-take c l k d m))) ∙ tabulate-map f (take c l) c d (length-take-le c l h)
-
 -- A loop that removes element k: at place i the elements after k have moved up as far as i.
 module _ {A : Type 0} where
   pub removed-none : (k : ℕ) (l : List A) → removed k k l ≡ l

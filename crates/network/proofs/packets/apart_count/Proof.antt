@@ -1,6 +1,6 @@
 -- `packets::apart_count` meets its contract: so many of the first k packets are not between the two.
 use Prim.Native.Nat.{_-_, _≤_}
-use mathlib.Core.Path.{_≡_, refl, sym, ap, _∙_}
+use mathlib.Core.Path.{_≡_, refl, ap, _∙_}
 use mathlib.Core.Bool.{true, false, not}
 use mathlib.Core.List.{[], _∷_}
 use lib.ListN.{length, length-append}
