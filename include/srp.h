@@ -60,7 +60,7 @@ extern "C" {
 enum srp_answer {
     SRP_DONE = 0,                    /* done, and there is no outcome number */
 
-    SRP_OUT_OF_RANGE = 1,            /* memory, n, start or a label is out of range */
+    SRP_OUT_OF_RANGE = 1,            /* memory, a lent row, n, start or a label is out of range */
     SRP_NO_STATION = 2,              /* a station is not below n, or the two are equal */
     SRP_LINK_ALREADY = 3,            /* Up on an up link, Down on a down link */
     SRP_IS_ACTIVE = 4,               /* Solicit by an active station */
