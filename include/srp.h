@@ -378,8 +378,8 @@ uint64_t srp_packet(const uint8_t *memory, size_t length, size_t k, uint8_t *out
 /*
  * Find: where a station stands in a row, as srp_row and srp_preview show one. The search ends at the first entry
  * that names the station. SRP_FOUND_AT is that entry's place, from 0, and SRP_LOOKED_AT one more; both are the
- * row's count where no entry names it. Only the count and the stations of the row are read: it may be of no
- * network, and name a station twice.
+ * row's count where no entry names it. What it tells depends on the row's count and stations alone: the row
+ * may be of no network, and name a station twice.
  * Refused: 1 where length is below SRP_ROW_BYTES or the row's count is over SRP_MAX_SUCCESSORS, 2 where station is
  * not below SRP_MAX_STATIONS. Answer 0; count: the place + 65536 times the places looked at.
  */

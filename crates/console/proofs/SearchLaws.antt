@@ -5,7 +5,7 @@ use mathlib.Core.List.{List}
 use lib.ListN.{length}
 use lib.Dec.{ltb, leb}
 use borrow.Author.Tests.{lt-ltb, le-ltb, lt-leb, le-leb}
-use Rattle.base.specs.Results.{accepted, mapped, refuse_when_otherwise_}
+use Rattle.base.specs.Results.{accepted, refuse_when_otherwise_}
 use Rattle.base.proofs.Results.{refuse-holds, refuse-passes}
 use Rattle.model.specs.Memory.{rowLimit}
 use Rattle.rows.specs.declared.Row.{Row}
@@ -14,28 +14,28 @@ use Rattle.rows.specs.Search.{placeOf, lookedAt}
 use Rattle.rows.proofs.RowLaws.{row-length}
 use Rattle.layout.specs.Stored.{storedRow}
 use Rattle.console.specs.Packed.{packed, telling}
-use Rattle.console.specs.Searching.{searching, tellingSearch}
+use Rattle.console.specs.Searching.{searching}
 
 module _ (bytes : List ℕ) (j : ℕ) where
-  pub search-short : length bytes < 69 → 1 ≡ tellingSearch j (searching bytes j)
-  unfolding searching tellingSearch telling mapped
-  search-short h = sym (ap (tellingSearch j) (refuse-holds 1 _ _ (lt-ltb (length bytes) 69 h)))
+  pub search-short : length bytes < 69 → 1 ≡ telling (searching bytes j)
+  unfolding searching telling
+  search-short h = sym (ap telling (refuse-holds 1 _ _ (lt-ltb (length bytes) 69 h)))
 
   module _ (row : Row) (e : row ≡ storedRow bytes 0) (long : 69 ≤ length bytes) where
     -- The tests that are left where the bytes are enough.
-    rest : searching bytes j ≡ refuse 1 when ltb rowLimit (row .count) otherwise refuse 2 when leb 16 j otherwise accepted (rowOf row)
+    rest : searching bytes j ≡ refuse 1 when ltb rowLimit (row .count) otherwise refuse 2 when leb 16 j otherwise accepted (placeOf j (rowOf row) + 65_536 * lookedAt j (rowOf row))
     unfolding searching
     rest = refuse-passes 1 _ _ (le-ltb (length bytes) 69 long) ∙ rw (← e, row-length row)
 
-    pub search-over : rowLimit < row .count → 1 ≡ tellingSearch j (searching bytes j)
-    unfolding tellingSearch telling mapped
-    search-over h = sym (ap (tellingSearch j) (rest ∙ refuse-holds 1 _ _ (lt-ltb rowLimit (row .count) h)))
+    pub search-over : rowLimit < row .count → 1 ≡ telling (searching bytes j)
+    unfolding telling
+    search-over h = sym (ap telling (rest ∙ refuse-holds 1 _ _ (lt-ltb rowLimit (row .count) h)))
 
     module _ (few : row .count ≤ rowLimit) where
-      pub search-no-station : 16 ≤ j → 2 ≡ tellingSearch j (searching bytes j)
-      unfolding tellingSearch telling mapped
-      search-no-station h = sym (ap (tellingSearch j) (rest ∙ refuse-passes 1 _ _ (le-ltb rowLimit (row .count) few) ∙ refuse-holds 2 _ _ (le-leb 16 j h)))
+      pub search-no-station : 16 ≤ j → 2 ≡ telling (searching bytes j)
+      unfolding telling
+      search-no-station h = sym (ap telling (rest ∙ refuse-passes 1 _ _ (le-ltb rowLimit (row .count) few) ∙ refuse-holds 2 _ _ (le-leb 16 j h)))
 
-      pub search-told : j < 16 → packed 0 (placeOf j (rowOf row) + 65_536 * lookedAt j (rowOf row)) ≡ tellingSearch j (searching bytes j)
-      unfolding tellingSearch telling mapped
-      search-told h = sym (ap (tellingSearch j) (rest ∙ refuse-passes 1 _ _ (le-ltb rowLimit (row .count) few) ∙ refuse-passes 2 _ _ (lt-leb 16 j h)))
+      pub search-told : j < 16 → packed 0 (placeOf j (rowOf row) + 65_536 * lookedAt j (rowOf row)) ≡ telling (searching bytes j)
+      unfolding telling
+      search-told h = sym (ap telling (rest ∙ refuse-passes 1 _ _ (le-ltb rowLimit (row .count) few) ∙ refuse-passes 2 _ _ (lt-leb 16 j h)))

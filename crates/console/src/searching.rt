@@ -1,6 +1,7 @@
 // The search for a station in a row that a console was shown.
 ghost use mathlib.Core.Path.{_≡_};
-ghost use Rattle.console.specs.Searching.{searching, tellingSearch};
+ghost use Rattle.console.specs.Packed.{telling};
+ghost use Rattle.console.specs.Searching.{searching};
 use crate::packed;
 use layout::entries::read_row;
 use rows::ROW_LIMIT;
@@ -9,7 +10,7 @@ use rows::find;
 // Where j stands in the row, and how many places were looked at.
 #[no_mangle]
 pub extern "C" fn srp_find(row: &[u8], j: usize) -> u64
-    ensures { λ r. ⌜ r ≡ tellingSearch j (searching (now (row .entry)) j) ⌝ }
+    ensures { λ r. ⌜ r ≡ telling (searching (now (row .entry)) j) ⌝ }
 {
     if row.len() < 69 {
         return 1;
