@@ -23,6 +23,9 @@ module _ {A : Type 0} where
   pub same-accepted : {x y : A} → accepted x ≡ accepted y → x ≡ y
   same-accepted h = cc
 
+  pub same-refused : {j k : ℕ} → _≡_ {A = Result A} (refused j) (refused k) → j ≡ k
+  same-refused h = cc
+
   pub not-turned-down : (number : ℕ) (case : Bool) (rest : Result A) (x : A) → refuse number when case otherwise rest ≡ accepted x → (case ≡ false) × (rest ≡ accepted x)
   unfolding refuse_when_otherwise_
   not-turned-down number true rest x h = not-accepted h

@@ -14,6 +14,7 @@ use Rattle.base.proofs.Loops.{tabulate-more}
 use Rattle.model.specs.Memory.{Network}
 use Rattle.model.specs.Calls.{Call, after, step, run}
 use Rattle.model.specs.Calls.{Open, Up, Down, Solicit, GiveUp, Expire, Deliver, Lose, Duplicate}
+use Rattle.model.specs.Walks.{Reached}
 use Rattle.model.specs.Events.{usesOne, notEvent, callOf, Event, calls, traces, noEvent, eventOf, eventAt, callsIn, eventLimit, notEvents, afterEvents}
 use Rattle.model.proofs.Refusals.{OnMemory}
 
@@ -22,6 +23,17 @@ pub run-append : (xs ys : List Call) (net : Network) → run (xs ++ ys) net ≡ 
 unfolding run
 run-append [] ys net = refl
 run-append (c ∷ xs) ys net = run-append xs ys (after net (step c net))
+
+-- A network that calls reach, they reach after more calls.
+pub reached-more : (net : Network) (more : List Call) → Reached net → Reached (run more net)
+reached-more net more r = record {
+  n = r .n;
+  start = r .start;
+  opened = r .opened;
+  opens = r .opens;
+  calls = r .calls ++ more;
+  left = ap (run more) (r .left) ∙ sym (run-append (r .calls) more (r .opened .net));
+}
 
 calls-append : (xs ys : List Event) → callsIn (xs ++ ys) ≡ callsIn xs ++ callsIn ys
 unfolding callsIn

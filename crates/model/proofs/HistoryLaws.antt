@@ -1,32 +1,34 @@
--- Lists of calls on a state of any kind leave what the model's list of calls leaves, if each call does.
+-- Lists of actions on a state of any kind leave what a list of the model's calls leaves, if each action does.
 use Prim.Native.Nat.{ℕ}
-use mathlib.Core.Path.{_≡_, refl, sym, subst}
+use mathlib.Core.Path.{_≡_, refl, sym, subst, _∙_}
 use mathlib.Core.Bool.{false}
-use mathlib.Core.List.{List, [], _∷_}
+use mathlib.Core.List.{List, [], _∷_, _++_}
 use Rattle.model.specs.Memory.{Network, fresh}
-use Rattle.model.specs.Calls.{Call, Open, after, notOpening, step, run}
+use Rattle.model.specs.Calls.{Call, notOpening, run}
 use Rattle.model.specs.Walks.{Reached}
 use Rattle.model.specs.Histories.{History, Made}
 use Rattle.model.proofs.Refusals.{fresh-reached}
+use Rattle.model.proofs.EventLaws.{run-append}
 
--- `Holds` says which network a state holds. An Open that answers 0 was accepted, and leaves a state that holds fresh memory; a call on a state
--- that holds a network leaves one that holds the network after the model's call.
-module _ {State : Type 0} (Ends : Call → (before : State) → (answer : ℕ) → (after : State) → Type 0) (Holds : State → Network → Type 0)
-    (opened : (n start : ℕ) (before left : State) → Ends (Open n start) before 0 left → (notOpening n start ≡ false) × Holds left (fresh n start))
-    (stepped : (c : Call) (before : State) (answer : ℕ) (left : State) (net : Network) → Holds before net → Ends c before answer left → Holds left (after net (step c net))) where
-  history-holds : (calls : List Call) (before left : State) (net : Network) → Holds before net → History Ends calls before left → Holds left (run calls net)
+-- `Holds` says which network a state holds. An opening that answers 0 was accepted, and leaves a state that holds fresh memory; an action on a
+-- state that holds a network leaves one that holds the network after some calls.
+module _ {Action State : Type 0} (opens : (n start : ℕ) → Action) (Ends : Action → (before : State) → (answer : ℕ) → (after : State) → Type 0)
+    (Holds : State → Network → Type 0)
+    (opened : (n start : ℕ) (before left : State) → Ends (opens n start) before 0 left → (notOpening n start ≡ false) × Holds left (fresh n start))
+    (stepped : (c : Action) (before : State) (answer : ℕ) (left : State) (net : Network) → Holds before net → Ends c before answer left
+    → (calls : List Call) × Holds left (run calls net)) where
+  history-holds : (actions : List Action) (before left : State) (net : Network) → Holds before net → History opens Ends actions before left
+      → (calls : List Call) × Holds left (run calls net)
   unfolding run
-  history-holds [] before left net h e = subst (λ s. Holds s net) (sym e) h
-  history-holds (c ∷ calls) before left net h (answer, next, e, k) =
-      history-holds calls next left (after net (step c net)) (stepped c before answer next net h e) k
+  history-holds [] before left net h e = ([], subst (λ s. Holds s net) (sym e) h)
+  history-holds (c ∷ actions) before left net h (answer, next, e, k) =
+      let (calls, holds) = stepped c before answer next net h e in
+      let (more, last) = history-holds actions next left (run calls net) holds k in
+      (calls ++ more, subst (Holds left) (sym (run-append calls more net)) last)
 
-  module _ (left : State) (m : Made Ends left) where
-    -- The network that the calls leave, which the state holds, is one that a list of calls reaches.
-    abbrev pub madeNetwork : Network
-    madeNetwork = run (m .calls) (fresh (m .n) (m .start))
-
-    pub made-holds : Holds left madeNetwork
-    made-holds = history-holds (m .calls) (m .opened) left (fresh (m .n) (m .start)) (opened (m .n) (m .start) (m .before) (m .opened) (m .opens) .1) (m .history)
-
-    pub made-reached : Reached madeNetwork
-    made-reached = fresh-reached (m .n) (m .start) (opened (m .n) (m .start) (m .before) (m .opened) (m .opens) .0) (m .calls) madeNetwork refl
+  -- The network that a state made so holds is one that a list of calls reaches.
+  pub made-reached : (left : State) → Made opens Ends left → (net : Network) × Holds left net × Reached net
+  made-reached left m =
+      let (right, holds) = opened (m .n) (m .start) (m .before) (m .opened) (m .opening) in
+      let (calls, last) = history-holds (m .actions) (m .opened) left (fresh (m .n) (m .start)) holds (m .history) in
+      (run calls (fresh (m .n) (m .start)), last, fresh-reached (m .n) (m .start) right calls _ refl)

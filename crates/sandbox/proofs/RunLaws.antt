@@ -20,7 +20,7 @@ use Rattle.model.specs.Calls.{Call, effect, run, trace}
 use Rattle.model.specs.Walks.{Reached}
 use Rattle.model.specs.Events.{eventAt, callsIn, notEvents, allEvents, afterEvents, running}
 use Rattle.model.specs.Printout.{lineAt, eventLines}
-use Rattle.model.proofs.EventLaws.{run-append}
+use Rattle.model.proofs.EventLaws.{reached-more}
 use Rattle.network.specs.declared.Memory.{Memory}
 use Rattle.network.specs.View.{view}
 use Rattle.steps.specs.declared.Done.{Done}
@@ -32,17 +32,6 @@ use Rattle.steps.proofs.RunLaws.{ran-in-range, ran-after}
 use Rattle.sandbox.specs.Made.{MadeMemory, WalksEndIn}
 use Rattle.sandbox.specs.Telling.{told, Tells}
 use Rattle.sandbox.proofs.MadeLaws.{made-memory-reached, reached-ends}
-
--- A network that calls reach, they reach after more calls.
-reached-more : (net : Network) (calls : List Call) → Reached net → Reached (run calls net)
-reached-more net calls r = record {
-  n = r .n;
-  start = r .start;
-  opened = r .opened;
-  opens = r .opens;
-  calls = r .calls ++ calls;
-  left = ap (run calls) (r .left) ∙ sym (run-append (r .calls) calls (r .opened .net));
-}
 
 module _ (memory : Memory) (kinds operands lines : List ℕ) where
   -- What the contract says.

@@ -1,0 +1,5 @@
+pub mod Sums
+pub mod Potential
+pub mod Spending
+pub mod Turning
+pub mod Ending
