@@ -77,8 +77,8 @@ module _ (net : Network) (kept : Invariant ⊥ net) (h : 0 < length (net .air)) 
   unfolding notPacket
   there = lt-leb (length (net .air)) 0 h
 
-  lost : step (Lose 0) net ≡ accepted (effect 0 0 (removePacket 0 net))
-  lost = lose-accepted net (invariant-in-range net kept) 0 there
+  pub lose-first : step (Lose 0) net ≡ accepted (effect 0 0 (removePacket 0 net))
+  lose-first = lose-accepted net (invariant-in-range net kept) 0 there
 
   -- Deliver is accepted, or turned down with a number for which the packet is lost.
   pub delivers-or-loses : (number : ℕ) → step (Deliver 0) net ≡ refused number → losesPacket number ≡ true
@@ -105,7 +105,7 @@ module _ (net : Network) (kept : Invariant ⊥ net) (h : 0 < length (net .air)) 
     where
       go : (z : Result Effect) → step (Deliver 0) net ≡ z → (turn : Turn) × (left : Network) × TurnLeaves turn net left
       go (accepted e) q = (delivery, e .net, (e, q, refl))
-      go (refused number) q = (loss, removePacket 0 net, (number, effect 0 0 (removePacket 0 net), q, delivers-or-loses number q, lost, refl))
+      go (refused number) q = (loss, removePacket 0 net, (number, effect 0 0 (removePacket 0 net), q, delivers-or-loses number q, lose-first, refl))
 
   -- It lowers the potential.
   module _ (ids : List RequestId) (o : AirOf ids (net .air)) (most : ℕ) (t : potential (net .n) ids net ≤ most + 1) where
@@ -127,7 +127,7 @@ module _ (net : Network) (kept : Invariant ⊥ net) (h : 0 < length (net .air)) 
         let s = spent-delivery net (kept .formed) ids o h most t in
         subst Lower (sym (is ∙ ap (λ (x : Effect). x .net) (delivered e accepts))) (record { size = s .size; left-over = s .left; air = s .air })
     turn-lowers loss left (number, e, refuses, loses, accepts, is) =
-        subst Lower (sym (is ∙ ap (λ (x : Effect). x .net) (same-accepted (sym accepts ∙ lost)))) gone
+        subst Lower (sym (is ∙ ap (λ (x : Effect). x .net) (same-accepted (sym accepts ∙ lose-first)))) gone
 
 -- Draining so far: these turns were made from the start, and leave this network.
 pub record Draining (start : Network) (turns : List Turn) (net : Network) : Type 0 where

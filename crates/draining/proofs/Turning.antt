@@ -5,7 +5,8 @@ use mathlib.Core.Bool.{Bool, true, false}
 use mathlib.Core.List.{List, [], _∷_, _++_}
 use lib.ListN.{length}
 use native.Mathlib.Omega.{arith}
-use Rattle.base.specs.Results.{Result, refused, accepted}
+use borrow.Author.Tests.{eqb-true}
+use Rattle.base.specs.Results.{refused, accepted, isRefusal}
 use Rattle.base.proofs.Booleans.{clash}
 use Rattle.base.proofs.Results.{not-accepted, same-accepted, same-refused}
 use Rattle.model.specs.Memory.{Packet, Network, memoryInRange}
@@ -47,20 +48,29 @@ turns-run (loss ∷ turns) before left (next, (number, e, refuses, lost, accepts
     turns-run turns next left rest
     ∙ ap (run (callsOf turns)) (is ∙ sym (ap (after before) accepts) ∙ ap (λ (net : Network). after net (step (Lose 0) net)) (sym (ap (after before) refuses)))
 
+-- No packet is lost for an answer that is no refusal.
+pub kept-accepted : (answer : ℕ) → isRefusal answer ≡ false → losesPacket answer ≡ false
+unfolding losesPacket isRefusal
+kept-accepted answer h = go (losesPacket answer) refl
+  where
+    go : (b : Bool) → losesPacket answer ≡ b → b ≡ false
+    go true e = clash (ap isRefusal (eqb-true answer 7 e)) h
+    go false e = refl
+
 -- No turn is made with an empty air.
 module _ (net : Network) (empty : net .air ≡ []) where
-  turned-down : (number : ℕ) × (step (Deliver 0) net ≡ refused number) × (losesPacket number ≡ false)
+  pub not-lost : (number : ℕ) × (step (Deliver 0) net ≡ refused number) × (losesPacket number ≡ false)
   unfolding losesPacket notPacket
-  turned-down = go (memoryInRange net) refl
+  not-lost = go (memoryInRange net) refl
     where
       go : (b : Bool) → memoryInRange net ≡ b → (number : ℕ) × (step (Deliver 0) net ≡ refused number) × (losesPacket number ≡ false)
       go true e = (6, deliver-6 net e 0 (rw empty), refl)
       go false e = (1, out-of-range (Deliver 0) net tt e, refl)
 
   pub no-turn : {A : Type 0} (turn : Turn) (left : Network) → TurnLeaves turn net left → A
-  no-turn delivery left (e, accepts, is) = let (number, refuses, kept) = turned-down in not-accepted (sym refuses ∙ accepts)
+  no-turn delivery left (e, accepts, is) = let (number, refuses, kept) = not-lost in not-accepted (sym refuses ∙ accepts)
   no-turn loss left (number, e, refuses, lost, accepts, is) =
-      let (other, turns-down, kept) = turned-down in
+      let (other, turns-down, kept) = not-lost in
       clash lost (ap losesPacket (same-refused (sym refuses ∙ turns-down)) ∙ kept)
 
 -- A turn is the only one, and leaves one network.

@@ -72,7 +72,8 @@ pub fn run(memory: Memory, kinds: &[u8], operands: &[u8], lines: &mut [u64]) -> 
             sent: 0,
         };
     }
-    let next = running::run(memory, kinds, operands, lines);
+    let ran = running::run(memory, false, kinds, operands, lines);
+    let next = ran.memory;
     Done {
         memory: next,
         answer: 0,

@@ -1,6 +1,7 @@
 pub mod CallLaws
 pub mod HappenLaws
 pub mod PacketMoves
+pub mod DrainLaws
 pub mod RunLaws
 pub mod ArmLaws
 pub mod AirLaws

@@ -1,18 +1,21 @@
 // A run of events in place.
 ghost use mathlib.Core.Path.{_≡_};
 ghost use mathlib.Core.Bool.{true};
-ghost use Prim.Native.Nat.{_+_, _*_, _<_, _≤_};
-ghost use lib.ListN.{length, getD};
-ghost use lib.Seq.{sets};
-ghost use Rattle.base.specs.Lists.{tabulate};
+ghost use mathlib.Core.List.{[], _∷_};
+ghost use Prim.Native.Nat.{_*_, _≤_};
+ghost use lib.ListN.{length};
 ghost use Rattle.model.specs.Memory.{memoryInRange};
 ghost use Rattle.model.specs.Events.{eventLimit};
 ghost use Rattle.network.specs.View.{view};
-ghost use Rattle.steps.specs.Ran.{Ran, told, ToldFit};
+ghost use Rattle.steps.specs.Ran.{RunEnds};
+use crate::Run;
 use crate::lines::line;
 use crate::parting::left_of;
 use crate::parting::parted;
 use crate::parting::stay;
+use crate::source::goes_on;
+use crate::source::line_place;
+use crate::source::next_event;
 use decisions::changing::change_of;
 use decisions::changing::class_of;
 use decisions::changing::expired;
@@ -42,45 +45,25 @@ use station::sending::error_scope;
 use station::sending::exchange;
 use station::sending::transmit;
 
-// An event: its kind and its operands.
-pub struct Event {
-    pub kind: u8,
-    pub a: u8,
-    pub b: u8,
-}
-
-// Event i of a list.
-fn event_at(kinds: &[u8], operands: &[u8], i: usize) -> Event
-    requires { ⌜ (i < length (now kinds)) × (2 * i + 1 < length (now operands)) ⌝ }
-    ensures { λ r. ⌜ (r .kind ≡ getD (now (kinds .entry)) i 0) × (r .a ≡ getD (now (operands .entry)) (2 * i) 0) × (r .b ≡ getD (now (operands .entry)) (2 * i + 1) 0) ⌝ }
-{
-    let kind = kinds[i];
-    let a = operands[2 * i];
-    let b = operands[2 * i + 1];
-    Event {
-        kind: kind,
-        a: a,
-        b: b,
-    }
-}
-
-// Events one after the other. What each tells stands at its place in the lent array.
-pub fn run(mut memory: Memory, kinds: &[u8], operands: &[u8], lines: &mut [u64]) -> Memory
+// Events one after the other: those of a list, whose lines the lent array tells; or, where the run drains the air, packet 0 delivered or lost
+// until no packet is left.
+pub fn run(mut memory: Memory, drains: bool, kinds: &[u8], operands: &[u8], lines: &mut [u64]) -> Run
     requires { ⌜ memoryInRange (view memory) ≡ true ⌝ }
     requires { ⌜ (length (now kinds) ≤ eventLimit) × (length (now operands) ≡ 2 * length (now kinds)) × (length (now kinds) ≤ length (now lines)) ⌝ }
-    ensures memory { λ r. ⌜ Ran memory (now (kinds .entry)) (now (operands .entry)) (length (now (kinds .entry))) r ⌝ }
-    ensures fits { λ _. ⌜ ToldFit (view memory) (now (kinds .entry)) (now (operands .entry)) (length (now (kinds .entry))) ⌝ }
-    ensures told { λ _. ⌜ now (lines .exit) ≡ sets (now (lines .entry)) 0 (tabulate (length (now (kinds .entry))) (told (view memory) (now (kinds .entry)) (now (operands .entry)))) ⌝ }
+    requires { ⌜ (drains ≡ true → now lines ≡ 0 ∷ []) ⌝ }
+    ensures { λ r. ⌜ RunEnds drains memory (now (kinds .entry)) (now (operands .entry)) (now (lines .entry)) (now (lines .exit)) r ⌝ }
 {
     let mut packets = memory.air.packets;
     let mut count = memory.air.count;
+    let mut lost = 0;
     let mut i = 0;
-    while i < kinds.len() {
-        let event = event_at(kinds, operands, i);
+    while goes_on(drains, i, kinds.len(), count) {
+        let event = next_event(drains, kinds, operands, i, lines[0]);
         let kind = event.kind;
         let a = event.a;
         let b = event.b;
-        let at = i;
+        lost += event.losses;
+        let at = line_place(drains, i);
         i += 1;
         let n = memory.n;
         let k = (a % AIR_LIMIT) as usize;
@@ -238,5 +221,9 @@ pub fn run(mut memory: Memory, kinds: &[u8], operands: &[u8], lines: &mut [u64])
         count: count,
     };
     memory.air = flown;
-    memory
+    Run {
+        memory: memory,
+        events: i,
+        losses: lost,
+    }
 }

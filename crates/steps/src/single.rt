@@ -20,7 +20,8 @@ pub fn event_in_range(memory: Memory, kind: u8, a: u8, b: u8) -> Happened
     let kinds = [kind];
     let operands = [a, b];
     let mut lines = [0u64; 1];
-    let next = run(memory, &kinds, &operands, &mut lines);
+    let ran = run(memory, false, &kinds, &operands, &mut lines);
+    let next = ran.memory;
     let line = lines[0];
     Happened {
         memory: next,

@@ -4,7 +4,7 @@ use mathlib.Core.Path.{_≡_, refl, sym, ap, subst, _∙_}
 use mathlib.Core.Logic.{_≢_, _⊎_, inl, inr}
 use mathlib.Core.Bool.{Bool, true, false, not, _&&_}
 use mathlib.Core.List.{List, map}
-use lib.Dec.{eqb}
+use lib.Dec.{eqb, ltb}
 use lib.ListN.{length, getD, set}
 use native.Mathlib.Omega.{arith}
 use borrow.Author.Needs.{needs}
@@ -27,7 +27,8 @@ use Rattle.station.proofs.Laws.{sent-few}
 use Rattle.steps.specs.Lines.{packed, Fits}
 use Rattle.steps.specs.Happens.{happened, Happens}
 use Rattle.steps.proofs.PacketMoves.{rest-down, rest-one-less, rest-few}
-use Rattle.steps.proofs.RunLaws.{airing, Shape, lengths-shape, shape-ranged, Turn, turn-none, turn-ranged, turn-length, turn-more}
+use Rattle.steps.proofs.RunLaws.{airing, Shape, lengths-shape, shape-ranged, Turn, mostEvents, place-most, Begins, few-events}
+use Rattle.steps.proofs.RunLaws.{turn-none, turn-below, turn-room, turn-listed, turn-lost, turn-more, turn-ends}
 use Rattle.steps.proofs.ArmLaws.{seen, Tested, class-cut, turned-down, light-shape, light-happens, trace-below, trace-happens}
 use Rattle.steps.proofs.ChangeLaws.{Looks, unused, arrived, goes, changed, changed-shape, change-7, ChangeMoved, change-happens}
 use Rattle.steps.proofs.CutLaws.{Lost, lost-none, lost-below, lost-more, CutRows, cut-none, cut-more, cut-all}
@@ -37,36 +38,36 @@ use Rattle.steps.proofs.running.run.Tie as tie
 
 -- The tracer's walk so far, and what it will tell.
 abbrev Inv-loop2 : tie.InvT-loop2
-Inv-loop2 kinds operands lines memory packets count i kind a b at n k station t own pair linked active number class limit walk₀ walk =
+Inv-loop2 drains kinds operands lines memory packets count lost i kind a b at n k station t own pair linked active number class limit walk₀ walk =
     let net = view (airing memory packets count) in
     (walk .answer ≡ 0 → (walk .at < n) × (walk .hops ≤ limit)) × (tells net t walk ≡ follow (hopLimit net) 0 net station t)
 
 abbrev μ-loop2 : tie.MeasureT-loop2
-μ-loop2 kinds operands lines memory packets count i kind a b at n k station t own pair linked active number class limit walk₀ walk =
+μ-loop2 drains kinds operands lines memory packets count lost i kind a b at n k station t own pair linked active number class limit walk₀ walk =
     if eqb (walk .answer) 0 then suc (limit - walk .hops) else 0
 
 -- The rows looked at so far.
 abbrev Inv-loop3 : tie.InvT-loop3
-Inv-loop3 kinds operands lines memory packets count i kind a b at n k station t own pair linked active number class cut first second edge up links losses₀ u₀ losses u =
+Inv-loop3 drains kinds operands lines memory packets count lost i kind a b at n k station t own pair linked active number class cut first second edge up links losses₀ u₀ losses u =
     (u ≤ n) × Lost cut (map rowOf (memory .rows)) u losses
 
 abbrev μ-loop3 : tie.MeasureT-loop3
-μ-loop3 kinds operands lines memory packets count i kind a b at n k station t own pair linked active number class cut first second edge up links losses₀ u₀ losses u = n - u
+μ-loop3 drains kinds operands lines memory packets count lost i kind a b at n k station t own pair linked active number class cut first second edge up links losses₀ u₀ losses u = n - u
 
 -- The rows cut so far.
 abbrev Inv-loop4 : tie.InvT-loop4
-Inv-loop4 kinds operands lines memory₀ packets count i kind a b at n k station t own pair linked active number class cut first second edge up links losses u left q z scope other sent more turns v₀ memory v =
+Inv-loop4 drains kinds operands lines memory₀ packets count lost i kind a b at n k station t own pair linked active number class cut first second edge up links losses u left q z scope other sent more turns v₀ memory v =
     (v ≤ turns) × (memory ≡ with-rows memory₀ (memory .rows)) × CutRows cut (memory₀ .rows) v (memory .rows)
 
 abbrev μ-loop4 : tie.MeasureT-loop4
-μ-loop4 kinds operands lines memory₀ packets count i kind a b at n k station t own pair linked active number class cut first second edge up links losses u left q z scope other sent more turns v₀ memory v = turns - v
+μ-loop4 drains kinds operands lines memory₀ packets count lost i kind a b at n k station t own pair linked active number class cut first second edge up links losses u left q z scope other sent more turns v₀ memory v = turns - v
 
 -- The events so far.
 abbrev Inv-loop : tie.InvT-loop
-Inv-loop kinds operands lines₀ memory₀ packets₀ count₀ i₀ lines memory packets count i = (i ≤ length kinds) × Turn memory₀ kinds operands lines₀ lines memory packets count i
+Inv-loop drains kinds operands lines₀ memory₀ packets₀ count₀ lost₀ i₀ lines memory packets count lost i = Turn drains memory₀ kinds operands lines₀ lines memory packets count lost i
 
 abbrev μ-loop : tie.MeasureT-loop
-μ-loop kinds operands lines₀ memory₀ packets₀ count₀ i₀ lines memory packets count i = length kinds - i
+μ-loop drains kinds operands lines₀ memory₀ packets₀ count₀ lost₀ i₀ lines memory packets count lost i = mostEvents drains memory₀ kinds - i
 
 -- A place of the run, or a need, with these invariants and measures.
 abbrev Of : (tie.InvT-loop2 → tie.MeasureT-loop2 → tie.InvT-loop3 → tie.MeasureT-loop3 → tie.InvT-loop4 → tie.MeasureT-loop4 → tie.InvT-loop → tie.MeasureT-loop → Type 0) → Type 0
@@ -77,13 +78,16 @@ abbrev begin : Of tie.At-loop → Of tie.Start
 begin c = c .before .before .before .before .before
 
 abbrev turn : Of tie.After-class-of → Of tie.At-loop
-turn c = c .before .before .before .before .before .before .before .before .before .before
+turn c = c .before .before .before .before .before .before .before .before .before .before .before .before .before .before
 
-abbrev entered : Of tie.After-class-of → Of tie.In-loop
-entered c = c .before .before .before .before .before .before .before .before .before
+abbrev entered : Of tie.After-class-of → Of tie.Then1
+entered c = c .before .before .before .before .before .before .before .before .before .before .before .before
 
-abbrev given : Of tie.After-class-of → Of tie.After-event-at
-given c = c .before .before .before .before .before .before .before .before
+abbrev given : Of tie.After-class-of → Of tie.After-next-event
+given c = c .before .before .before .before .before .before .before .before .before .before
+
+abbrev lined-up : Of tie.After-class-of → Of tie.After-line-place
+lined-up c = c .before .before .before .before .before .before .before .before
 
 abbrev looked-at : Of tie.After-class-of → Of tie.After-spot-of
 looked-at c = c .before .before .before .before .before .before
@@ -97,16 +101,16 @@ light-tests c = c .before .before .before .before .before .before
 abbrev hop-tests : Of tie.After-place2 → Of tie.After-class-of
 hop-tests c = c .before .before .before .before .before .before .before .before
 
-abbrev trace-tests : Of tie.Then3 → Of tie.After-class-of
+abbrev trace-tests : Of tie.Then4 → Of tie.After-class-of
 trace-tests c = c .before .before .before
 
-abbrev hop-arm : Of tie.After-place2 → Of tie.Then3
+abbrev hop-arm : Of tie.After-place2 → Of tie.Then4
 hop-arm c = c .before .before .before .before .before
 
 abbrev walk-tests : Of tie.After-line3 → Of tie.After-class-of
 walk-tests c = c .before .before .before .before .before .before .before .before
 
-abbrev arm-tests : Of tie.Then5 → Of tie.After-class-of
+abbrev arm-tests : Of tie.Then6 → Of tie.After-class-of
 arm-tests c = c .before .before .before .before
 
 abbrev loss-tests : Of tie.At-loop3 → Of tie.After-class-of
@@ -121,13 +125,13 @@ reading c = c .before .before .before .before .before
 abbrev cut-tests : Of tie.After-copies2 → Of tie.After-class-of
 cut-tests c = c .before .before .before .before .before .before .before .before .before .before .before .before .before .before .before .before .before
 
-abbrev cut-passed : Of tie.After-copies2 → Of tie.Else1
+abbrev cut-passed : Of tie.After-copies2 → Of tie.Else2
 cut-passed c = c .before .before .before .before .before .before .before .before .before .before .before .before .before .before .before .before
 
 abbrev cut-at : Of tie.After-copies2 → Of tie.After-cut-of
 cut-at c = c .before .before .before .before .before .before .before .before .before .before .before .before
 
-abbrev cut-arm : Of tie.After-copies2 → Of tie.Then5
+abbrev cut-arm : Of tie.After-copies2 → Of tie.Then6
 cut-arm c = c .before .before .before .before .before .before .before .before .before .before .before .before .before
 
 abbrev cut-rows-read : Of tie.After-copies2 → Of tie.At-loop3
@@ -151,13 +155,13 @@ all-cut c = c .before .before .before .before .before
 abbrev decided : Of tie.After-line5 → Of tie.After-copies2
 decided c = c .before .before .before .before .before .before .before
 
-abbrev cut-has-room : Of tie.After-line5 → Of tie.Else6
+abbrev cut-has-room : Of tie.After-line5 → Of tie.Else7
 cut-has-room c = c .before .before .before .before .before
 
 abbrev held-tests : Of tie.After-label-of → Of tie.After-class-of
 held-tests c = c .before .before .before .before .before .before .before .before .before .before .before .before .before .before
 
-abbrev held-passed : Of tie.After-label-of → Of tie.Else1
+abbrev held-passed : Of tie.After-label-of → Of tie.Else2
 held-passed c = c .before .before .before .before .before .before .before .before .before .before .before .before .before
 
 abbrev held-at : Of tie.After-label-of → Of tie.After-place8
@@ -175,7 +179,7 @@ change-tests c = c .before .before .before .before .before .before .before .befo
 abbrev chosen : Of tie.After-line7 → Of tie.After-copies3
 chosen c = c .before .before .before .before .before .before .before .before .before
 
-abbrev has-room : Of tie.After-line7 → Of tie.Else8
+abbrev has-room : Of tie.After-line7 → Of tie.Else9
 has-room c = c .before .before .before .before .before .before .before
 
 -- The memory before a turn, which is in range.
@@ -183,14 +187,32 @@ abbrev memory : Of tie.At-loop → Memory
 memory c = airing (c .loop .memory) (c .loop .packets) (c .loop .count)
 
 ranged : (c : Of tie.At-loop) → memoryInRange (view (memory c)) ≡ true
-ranged c = turn-ranged (c .loop .inv .1) (begin c .pre .0)
+ranged c = c .loop .inv .ranged
 
 known : (c : Of tie.At-loop) → Ranged (memory c)
-known c = shape-ranged _ (c .loop .inv .1 .shape) (ranged c)
+known c = shape-ranged _ (c .loop .inv .shape) (ranged c)
 
--- There is room for the event's line.
-room : (c : Of tie.In-loop) → c .before .loop .i < length (c .before .loop .lines)
-room c = omega (arith, c .loop-test, begin (c .before) .pre .1, turn-length (c .before .loop .inv .1))
+-- The memory at the start has its sizes.
+start-shape : (c : Of tie.Start) → Shape (c .args .t1) (c .args .t1 .air .packets)
+start-shape c = lengths-shape (memory-lengths (c .args .t1) (c .good .0))
+
+-- What the run begins with.
+begun : (c : Of tie.Start) → Begins (c .args .drains) (c .args .t1) (c .args .kinds .now) (c .args .lines .now)
+begun c = record { shape = start-shape c; ranged = c .pre .0; short = c .pre .1 .0 .0; room = c .pre .1 .0 .2; one-line = c .pre .1 .1 }
+
+-- There is a next event: it is one of at most 138,272, its line has a place, and it loses one packet at most.
+abbrev GoesOn : Of tie.At-loop → Bool → Type 0
+GoesOn c b = (if begin c .args .drains then ltb 0 (c .loop .count) else ltb (c .loop .i) (length (begin c .args .kinds .now))) ≡ b
+
+goes-on : (c : Of tie.Then1) → GoesOn (c .before .before) true
+goes-on c = sym (c .before .goes-on .ensures) ∙ c .if1 .taken
+
+among : (c : Of tie.Then1) → let start = begin (c .before .before) .args in
+    (c .before .before .loop .i < mostEvents (start .drains) (start .t1) (start .kinds .now)) × (mostEvents (start .drains) (start .t1) (start .kinds .now) ≤ 138_272)
+among c = let start = begin (c .before .before) in (turn-below _ (c .before .before .loop .inv) (begun start) (goes-on c), few-events _ (begun start))
+
+room : (c : Of tie.After-line-place) → let at = c .before .before .before .before in c .line-place .result < length (at .before .before .loop .lines)
+room c = let at = c .before .before .before .before in turn-room _ (at .before .before .loop .inv) (begun (begin (at .before .before))) (goes-on at) (c .line-place .ensures) .0
 
 -- Where the event looks.
 inside : (c : Of tie.After-spot-of) → (c .spot-of .result .station < 16) × (c .spot-of .result .destination < 16) × (c .spot-of .result .source < 16)
@@ -199,40 +221,39 @@ inside c = c .spot-of .ensures .1 .1
 pair : (c : Of tie.After-pair-place) → c .pair-place .result < 256
 pair c = omega (arith, c .pair-place .ensures, inside (c .before))
 
--- The memory at the start has its sizes.
-start-shape : (c : Of tie.Start) → Shape (c .args .t1) (c .args .t1 .air .packets)
-start-shape c = lengths-shape (memory-lengths (c .args .t1) (c .good .0))
-
 -- There are at most 16 stations.
 few-stations : (c : Of tie.After-class-of) → turn c .loop .memory .n ≤ 16
 few-stations c = known (turn c) .high
 
 -- Past the tests.
-tested : (c : Of tie.After-class-of) → let e = given c .event-at .result in let t = turn c .loop in Tested (t .memory) (t .packets) (t .count) (e .kind) (e .a) (e .b) (c .before .refusal .result)
+tested : (c : Of tie.After-class-of) → let e = given c .next-event .result in let t = turn c .loop in Tested (t .memory) (t .packets) (t .count) (e .kind) (e .a) (e .b) (c .before .refusal .result)
 tested c = record {
-  shape = turn c .loop .inv .1 .shape;
+  shape = turn c .loop .inv .shape;
   ranged = ranged (turn c);
   tests = c .before .refusal .ensures (view (memory (turn c))) (seen (turn c .loop .memory) (turn c .loop .packets) (turn c .loop .count) (looked-at c .spot-of .result) (ranged (turn c)) (few-stations c) (looked-at c .spot-of .ensures .0) (paired c .pair-place .ensures));
 }
 
--- The event is one of at most 4,096.
-among : (c : Of tie.After-class-of) → let kinds = begin (turn c) .args .kinds .now in (turn c .loop .i < length kinds) × (length kinds ≤ 4_096)
-among c = (omega (arith, entered c .loop-test), omega (arith, begin (turn c) .pre .1))
+-- The event is one of so many, and its line is told at a place up to its own.
+counted : (c : Of tie.After-class-of) → let start = begin (turn c) .args in let most = mostEvents (start .drains) (start .t1) (start .kinds .now) in
+    (turn c .loop .i < most) × (most ≤ 138_272) × (lined-up c .line-place .result ≤ turn c .loop .i)
+counted c = let n = among (entered c) in (n .0, n .1, place-most (begin (turn c) .args .drains) (lined-up c .line-place .ensures))
 
 -- A turn ends: the event has happened, and v tells of it.
 module _ (c : Of tie.After-class-of) where
   abbrev Ended : ℕ → Memory → List Packet → ℕ → Type 0
-  Ended v next packets count = let start = begin (turn c) .args in let now = turn c .loop in (now .i + 1 ≤ length (start .kinds .now))
-      × Turn (start .t1) (start .kinds .now) (start .operands .now) (start .lines .now) (set (now .lines) (now .i) v) next packets count (now .i + 1)
+  Ended v next packets count = let start = begin (turn c) .args in let now = turn c .loop in
+      Turn (start .drains) (start .t1) (start .kinds .now) (start .operands .now) (start .lines .now) (set (now .lines) (lined-up c .line-place .result) v) next packets count
+      (now .lost + given c .next-event .result .losses) (now .i + 1)
 
   ended : {next : Memory} {packets : List Packet} {count answer sent hops v : ℕ} → (v ≡ packed answer sent count hops) × Fits answer sent count hops → Shape next packets
-      → let e = given c .event-at .result in Happens (memory (turn c)) (eventOf (e .kind) (e .a) (e .b)) (happened (airing next packets count) answer sent hops)
+      → let e = given c .next-event .result in Happens (memory (turn c)) (eventOf (e .kind) (e .a) (e .b)) (happened (airing next packets count) answer sent hops)
       → Ended v next packets count
-  ended line shape happens = (omega (arith, among c), turn-more (turn c .loop .inv .1) (given c .event-at .ensures) line shape happens)
+  ended line shape happens =
+      turn-more _ (turn c .loop .inv) (begun (begin (turn c))) (goes-on (entered c)) _ (given c .next-event .ensures) (lined-up c .line-place .ensures) line shape happens
 
   -- Nothing changed.
   as-before : Shape (turn c .loop .memory) (turn c .loop .packets)
-  as-before = turn c .loop .inv .1 .shape
+  as-before = turn c .loop .inv .shape
 
 -- Up, Give up and Expire.
 cell : (c : Of tie.After-place) → c .place .result < 256
@@ -242,18 +263,18 @@ abbrev shrink : Row → ℕ → Row
 shrink row count = record { labels = row .labels; stations = row .stations; count = count }
 
 shrunk : (c : Of tie.After-line2) → let row = getD (turn (light-tests c) .loop .memory .rows) (c .before .before .before .place .result) zeroRow in
-    shrink row (c .before .expired .result) ≡ shrink row (if eqb (given (light-tests c) .event-at .result .kind) 5 then 0 else row .count)
+    shrink row (c .before .expired .result) ≡ shrink row (if eqb (given (light-tests c) .next-event .result .kind) 5 then 0 else row .count)
 shrunk c = ap (shrink (getD (turn (light-tests c) .loop .memory .rows) (c .before .before .before .place .result) zeroRow)) (c .before .expired .ensures)
 
 -- Trace: its stations, and where it is.
-ends-below : (c : Of tie.Then3) → let w = looked-at (trace-tests c) .spot-of .result in let n = turn (trace-tests c) .loop .memory .n in (w .station < n) × (w .destination < n)
+ends-below : (c : Of tie.Then4) → let w = looked-at (trace-tests c) .spot-of .result in let n = turn (trace-tests c) .loop .memory .n in (w .station < n) × (w .destination < n)
 ends-below c =
     let spot = looked-at (trace-tests c) .spot-of in
-    trace-below (tested (trace-tests c)) (c .before .before .if1 .left) _ (sym (trace-tests c .class-of .ensures) ∙ c .if3 .taken) (spot .result) (spot .ensures .0)
+    trace-below (tested (trace-tests c)) (c .before .before .if2 .left) _ (sym (trace-tests c .class-of .ensures) ∙ c .if4 .taken) (spot .result) (spot .ensures .0)
 
 here : (c : Of tie.After-place2) → (c .before .before .before .loop2 .walk .at < turn (hop-tests c) .loop .memory .n) × (c .place2 .result < 256)
 here c =
-    let at = c .before .before .before .loop2 .inv .0 (c .before .if4 .taken) in
+    let at = c .before .before .before .loop2 .inv .0 (c .before .if5 .taken) in
     (at .0, omega (arith, c .place2 .ensures, at .0, ends-below (hop-arm c) .1, few-stations (hop-tests c)))
 
 walk-less : (answer hops hops′ limit : ℕ) → (answer ≡ 0 → (hops < limit) × (hops′ ≡ hops + 1)) → (if eqb answer 0 then suc (limit - hops′) else 0) < suc (limit - hops)
@@ -283,12 +304,12 @@ module _ (c : Of tie.After-advance) where
       (omega (arith, g .at ∙ first, next), omega (arith, g .hops, g .below))
 
 -- Rows are cut: the two stations.
-cutting : (c : Of tie.Then5) → let e = given (arm-tests c) .event-at .result in let p = getD (turn (arm-tests c) .loop .packets) (e .a % 128) zeroPacket in (e .kind ≡ 2) ⊎ ((e .kind ≡ 6) × (p .kind ≡ 3))
-cutting c = class-cut (sym (arm-tests c .class-of .ensures) ∙ c .if5 .taken)
+cutting : (c : Of tie.Then6) → let e = given (arm-tests c) .next-event .result in let p = getD (turn (arm-tests c) .loop .packets) (e .a % 128) zeroPacket in (e .kind ≡ 2) ⊎ ((e .kind ≡ 6) × (p .kind ≡ 3))
+cutting c = class-cut (sym (arm-tests c .class-of .ensures) ∙ c .if6 .taken)
 
 ends : (c : Of tie.After-cut-of) → let n = turn (arm-tests (c .before)) .loop .memory .n in
     (c .cut-of .result .first < n) × (c .cut-of .result .second < n) × (c .cut-of .result .first ≢ c .cut-of .result .second)
-ends c = cut-below (tested (arm-tests (c .before))) (c .before .before .before .before .if1 .left) (cutting (c .before)) (c .cut-of .ensures .0) (c .cut-of .ensures .1)
+ends c = cut-below (tested (arm-tests (c .before))) (c .before .before .before .before .if2 .left) (cutting (c .before)) (c .cut-of .ensures .0) (c .cut-of .ensures .1)
 
 edge : (c : Of tie.After-pair-place2) → c .pair-place2 .result < 256
 edge c = omega (arith, c .pair-place2 .ensures, ends (c .before), few-stations (arm-tests (c .before .before)))
@@ -323,15 +344,15 @@ both c =
     (high, omega (arith, two, high), omega (arith, two, high))
 
 -- The error that is delivered is there.
-there : (c : Of tie.Then5) → given (arm-tests c) .event-at .result .kind ≢ 2 → given (arm-tests c) .event-at .result .a % 128 < turn (arm-tests c) .loop .count
-there c = cut-there (tested (arm-tests c)) (c .before .before .before .if1 .left) (cutting c)
+there : (c : Of tie.Then6) → given (arm-tests c) .next-event .result .kind ≢ 2 → given (arm-tests c) .next-event .result .a % 128 < turn (arm-tests c) .loop .count
+there c = cut-there (tested (arm-tests c)) (c .before .before .before .if2 .left) (cutting c)
 
 -- The links after it.
 abbrev links : (c : Of tie.After-copies2) → List Bool
-links c = let up = turn (cut-tests c) .loop .memory .links in let at = cut-link c .pair-place2 .result in set up at (getD up at false && not (eqb (given (cut-tests c) .event-at .result .kind) 2))
+links c = let up = turn (cut-tests c) .loop .memory .links in let at = cut-link c .pair-place2 .result in set up at (getD up at false && not (eqb (given (cut-tests c) .next-event .result .kind) 2))
 
 -- What is known where all that Down or an error does is decided.
-pieces : (c : Of tie.After-copies2) → let e = given (cut-tests c) .event-at .result in let t = turn (cut-tests c) .loop in
+pieces : (c : Of tie.After-copies2) → let e = given (cut-tests c) .next-event .result in let t = turn (cut-tests c) .loop in
     Cutting (t .memory) (e .kind) (e .a) (e .b) (getD (t .packets) (e .a % 128) zeroPacket) (cut-at c .cut-of .result) (cut-rows-read c .loop3 .losses) (links c)
     (c .before .before .before .error-scope .result) (c .before .before .error-scope2 .result) (cut-error c .error .result) (c .before .before .before .before .error2 .result)
 pieces c =
@@ -342,7 +363,7 @@ pieces c =
       down-cuts = cut-at c .cut-of .ensures .0;
       error-cuts = cut-at c .cut-of .ensures .1;
       lost-is = subst (λ (u : ℕ). Lost (cut-at c .cut-of .result) (map rowOf rows) u (cut-rows-read c .loop3 .losses)) last (cut-rows-read c .loop3 .inv .1);
-      links-are = let up = turn (cut-tests c) .loop .memory .links in ap (λ (x : ℕ). set up x (getD up x false && not (eqb (given (cut-tests c) .event-at .result .kind) 2))) (cut-link c .pair-place2 .ensures);
+      links-are = let up = turn (cut-tests c) .loop .memory .links in ap (λ (x : ℕ). set up x (getD up x false && not (eqb (given (cut-tests c) .next-event .result .kind) 2))) (cut-link c .pair-place2 .ensures);
       first-is = cut-error c .error .ensures;
       first-sends = c .before .before .before .error-scope .ensures;
       second-is = c .before .before .before .before .error2 .ensures;
@@ -353,7 +374,7 @@ pieces c =
 few : (c : Of tie.After-copies2) → (cut-stays c .left-of .result ≤ 128) × (c .before .copies .result ≤ 16) × (c .copies2 .result ≤ 16)
 few c =
     let k = known (turn (cut-tests c)) in
-    let e = given (cut-tests c) .event-at .result in
+    let e = given (cut-tests c) .next-event .result in
     let now = turn (cut-tests c) .loop in
     let cut = cut-at c .cut-of .result in (
       omega (arith, cut-stays c .left-of .ensures, rest-few (e .kind) (now .packets) (now .count) (e .a % 128) (cut .first) (cut .second) (there (cut-arm c)), k .air-count),
@@ -362,11 +383,11 @@ few c =
     )
 
 -- There would be too many packets, or there is room.
-over : (c : Of tie.Then6) → airLimit < cut-stays (c .before .before) .left-of .result + (c .before .before .before .copies .result + c .before .before .copies2 .result)
-over c = ltb-true _ _ (sym (c .before .full .ensures) ∙ c .if6 .taken)
+over : (c : Of tie.Then7) → airLimit < cut-stays (c .before .before) .left-of .result + (c .before .before .before .copies .result + c .before .before .copies2 .result)
+over c = ltb-true _ _ (sym (c .before .full .ensures) ∙ c .if7 .taken)
 
-fits : (c : Of tie.Else6) → cut-stays (c .before .before) .left-of .result + (c .before .before .before .copies .result + c .before .before .copies2 .result) ≤ airLimit
-fits c = ltb-false _ _ (sym (c .before .full .ensures) ∙ c .if6 .left)
+fits : (c : Of tie.Else7) → cut-stays (c .before .before) .left-of .result + (c .before .before .before .copies .result + c .before .before .copies2 .result) ≤ airLimit
+fits c = ltb-false _ _ (sym (c .before .full .ensures) ∙ c .if7 .left)
 
 -- The places of a turn of the cut.
 turned : (removed : Bool) (n : ℕ) → (if removed then n else 0) ≤ n
@@ -425,14 +446,14 @@ module _ (c : Of tie.After-line5) (packets : List Packet) where
   rows-cut = c .before .before
 
   abbrev Cuts : Type 0
-  Cuts = CutMoved (tested (cut-tests here-cut)) (cut-passed here-cut .if1 .left) (pieces here-cut) (cut-stays here-cut .left-of .ensures) (here-cut .before .copies .ensures) (here-cut .copies2 .ensures) packets
+  Cuts = CutMoved (tested (cut-tests here-cut)) (cut-passed here-cut .if2 .left) (pieces here-cut) (cut-stays here-cut .left-of .ensures) (here-cut .before .copies .ensures) (here-cut .copies2 .ensures) packets
 
   cut-ended : length packets ≡ airLimit → Cuts
       → Ended (cut-tests here-cut) (c .line5 .result) (with-links (rows-cut .before .loop4 .memory) (links here-cut)) packets (cut-stays here-cut .left-of .result + here-cut .before .copies .result + here-cut .copies2 .result)
   cut-ended long moved =
       ended (cut-tests here-cut) (c .line5 .ensures)
-      (cut-shape (tested (cut-tests here-cut)) (cut-passed here-cut .if1 .left) (pieces here-cut) _ (rows-cut .before .loop4 .inv .1) (cut-rows rows-cut) long)
-      (cut-happens (tested (cut-tests here-cut)) (cut-passed here-cut .if1 .left) (pieces here-cut) (cut-stays here-cut .left-of .ensures) (here-cut .before .copies .ensures) (here-cut .copies2 .ensures) _
+      (cut-shape (tested (cut-tests here-cut)) (cut-passed here-cut .if2 .left) (pieces here-cut) _ (rows-cut .before .loop4 .inv .1) (cut-rows rows-cut) long)
+      (cut-happens (tested (cut-tests here-cut)) (cut-passed here-cut .if2 .left) (pieces here-cut) (cut-stays here-cut .left-of .ensures) (here-cut .before .copies .ensures) (here-cut .copies2 .ensures) _
       (rows-cut .before .loop4 .inv .1) (cut-rows rows-cut) packets moved (fits (cut-has-room c)) (c .before .cut-answer .ensures))
 
 -- Solicit, Lose, Duplicate, and a request or a reply delivered: where they look, and what stands there.
@@ -441,25 +462,25 @@ spots c =
     let k = inside (looked-at (c .before .before .before .before .before .before)) in
     (omega (arith, c .before .place7 .ensures, k), omega (arith, c .place8 .ensures, k))
 
-looks : (c : Of tie.After-label-of) → let t = turn (held-tests c) .loop in let e = given (held-tests c) .event-at .result in
+looks : (c : Of tie.After-label-of) → let t = turn (held-tests c) .loop in let e = given (held-tests c) .next-event .result in
     Looks (t .memory) (t .packets) (t .count) (e .kind) (e .a) (e .b) (held-tests c .before .refusal .result) (looked-at (held-tests c) .spot-of .result) (held-at c .before .place7 .result) (held-at c .place8 .result) (c .label-of .result)
 unfolding labelOf
 looks c =
     let class = held-tests c .class-of .ensures in
     record {
       tested = tested (held-tests c);
-      zero-is = held-passed c .if1 .left;
+      zero-is = held-passed c .if2 .left;
       call-spot = looked-at (held-tests c) .spot-of .ensures .0;
       packet-spot = looked-at (held-tests c) .spot-of .ensures .1 .0;
-      other-0 = λ e. held-at c .before .before .before .before .if2 .left (class ∙ e);
-      other-1 = λ e. held-at c .before .before .before .if3 .left (class ∙ e);
-      other-2 = λ e. held-at c .before .before .if5 .left (class ∙ e);
+      other-0 = λ e. held-at c .before .before .before .before .if3 .left (class ∙ e);
+      other-1 = λ e. held-at c .before .before .before .if4 .left (class ∙ e);
+      other-2 = λ e. held-at c .before .before .if6 .left (class ∙ e);
       cell-is = held-at c .before .place7 .ensures;
       slot-is = held-at c .place8 .ensures;
       label-is = c .label-of .ensures;
     }
 
-gone : (c : Of tie.After-change-of) → c .change-of .result .drops ≡ true → given (held-tests (c .before)) .event-at .result .a % 128 < turn (held-tests (c .before)) .loop .count
+gone : (c : Of tie.After-change-of) → c .change-of .result .drops ≡ true → given (held-tests (c .before)) .next-event .result .a % 128 < turn (held-tests (c .before)) .loop .count
 gone c d = goes (looks (c .before)) (c .change-of .ensures) d
 
 -- Few packets are sent, and few stay.
@@ -473,11 +494,11 @@ small c =
     (omega (arith, c .before .stay .ensures, stay-few (c .before .before .before .change-of .result .drops) (turn (change-tests c) .loop .count), k .air-count), rw (c .copies3 .ensures) (sent-few _ _ _ _ _ (k .high)))
 
 -- There would be too many packets, or there is room.
-over-two : (c : Of tie.Then8) → airLimit < c .before .before .before .stay .result + c .before .before .copies3 .result
-over-two c = ltb-true _ _ (sym (c .before .full2 .ensures) ∙ c .if8 .taken)
+over-two : (c : Of tie.Then9) → airLimit < c .before .before .before .stay .result + c .before .before .copies3 .result
+over-two c = ltb-true _ _ (sym (c .before .full2 .ensures) ∙ c .if9 .taken)
 
-fits-two : (c : Of tie.Else8) → c .before .before .before .stay .result + c .before .before .copies3 .result ≤ airLimit
-fits-two c = ltb-false _ _ (sym (c .before .full2 .ensures) ∙ c .if8 .left)
+fits-two : (c : Of tie.Else9) → c .before .before .before .stay .result + c .before .before .copies3 .result ≤ airLimit
+fits-two c = ltb-false _ _ (sym (c .before .full2 .ensures) ∙ c .if9 .left)
 
 -- They end with the packets that `exchange` or `transmit` gave.
 module _ (c : Of tie.After-line7) (packets : List Packet) where
@@ -501,13 +522,33 @@ module _ (c : Of tie.After-line7) (packets : List Packet) where
 
 -- Before the first event, and the tests of one.
 loop-holds : Of tie.Need-loop-holds
-loop-holds c = (omega arith, turn-none (start-shape (c .before .before .before .before)))
+loop-holds c = turn-none _ (begun (c .before .before .before .before))
 
-event-at-requires : Of tie.Need-event-at-requires
-event-at-requires c κs = (omega (arith, c .loop-test), omega (arith, c .loop-test, begin (c .before) .pre .1))
+goes-on-requires : Of tie.Need-goes-on-requires
+goes-on-requires c κs = search needs
+
+slice-read-next-event : Of tie.Need-slice-read-next-event
+slice-read-next-event c =
+    let at = c .before .before .before in
+    turn-room _ (at .loop .inv) (begun (begin at)) (goes-on (c .before)) refl .1
+
+next-event-requires : Of tie.Need-next-event-requires
+next-event-requires c κs =
+    let at = c .before .before .before in
+    λ d.
+    let below = turn-listed (begin at .args .drains) (at .loop .count) (at .loop .i) (length (begin at .args .kinds .now)) (goes-on (c .before)) d in
+    (below, omega (arith, begin at .pre .1))
+
+add-lost : Of tie.Need-add-lost
+add-lost c =
+    let at = c .before .before .before .before .before in
+    record { fits = omega (arith, at .loop .inv .few-lost, turn-lost _ (at .loop .inv) _ (c .before .next-event .ensures), among (c .before .before .before)) }
+
+line-place-requires : Of tie.Need-line-place-requires
+line-place-requires c κs = search needs
 
 add-i : Of tie.Need-add-i
-add-i c = record { fits = omega (arith, c .before .loop-test, begin (c .before .before) .pre .1) }
+add-i c = record { fits = omega (arith, among (c .before .before .before .before)) }
 
 cast-k : Of tie.Need-cast-k
 cast-k c = search needs
@@ -550,16 +591,16 @@ line-requires : Of tie.Need-line-requires
 line-requires c κs = search needs
 
 mul-lines : Of tie.Need-mul-lines
-mul-lines c = record { fits = omega (arith, among (c .before .before)) }
+mul-lines c = record { fits = omega (arith, counted (c .before .before)) }
 
 slice-write-lines : Of tie.Need-slice-write-lines
-slice-write-lines c = room (entered (c .before .before))
+slice-write-lines c = room (lined-up (c .before .before))
 
 loop-less : Of tie.Need-loop-less
-loop-less c = omega (arith, among (c .before .before))
+loop-less c = omega (arith, counted (c .before .before))
 
 loop-again : Of tie.Need-loop-again
-loop-again c = ended (c .before .before) (c .line .ensures) (as-before (c .before .before)) (turned-down (tested (c .before .before)) (c .before .if1 .taken))
+loop-again c = ended (c .before .before) (c .line .ensures) (as-before (c .before .before)) (turned-down (tested (c .before .before)) (c .before .if2 .taken))
 
 -- Up, Give up and Expire.
 place-requires : Of tie.Need-place-requires
@@ -590,22 +631,22 @@ line-requires-2 : Of tie.Need-line-requires-2
 line-requires-2 c κs = search needs
 
 mul-lines-2 : Of tie.Need-mul-lines-2
-mul-lines-2 c = record { fits = omega (arith, among (light-tests c)) }
+mul-lines-2 c = record { fits = omega (arith, counted (light-tests c)) }
 
 slice-write-lines-2 : Of tie.Need-slice-write-lines-2
-slice-write-lines-2 c = room (entered (light-tests c))
+slice-write-lines-2 c = room (lined-up (light-tests c))
 
 loop-less-2 : Of tie.Need-loop-less-2
-loop-less-2 c = omega (arith, among (light-tests c))
+loop-less-2 c = omega (arith, counted (light-tests c))
 
 loop-again-2 : Of tie.Need-loop-again-2
 loop-again-2 c =
-    let passed = c .before .before .before .before .before .if1 .left in
+    let passed = c .before .before .before .before .before .if2 .left in
     let spot = looked-at (light-tests c) .spot-of in
     ended (light-tests c) (c .line2 .ensures)
     (light-shape (tested (light-tests c)) passed (spot .result) (spot .ensures .0) (paired (light-tests c) .pair-place .ensures) (c .before .before .before .place .ensures) (shrunk c))
     (light-happens (tested (light-tests c)) passed (spot .result) (spot .ensures .0) (paired (light-tests c) .pair-place .ensures) (c .before .before .before .place .ensures) (shrunk c) _
-    (sym (light-tests c .class-of .ensures) ∙ c .before .before .before .before .if2 .taken))
+    (sym (light-tests c .class-of .ensures) ∙ c .before .before .before .before .if3 .taken))
 
 -- Trace.
 most-hops-requires : Of tie.Need-most-hops-requires
@@ -627,11 +668,11 @@ element-copy-out-row-2 c = here c .1
 advance-requires : Of tie.Need-advance-requires
 advance-requires c κs =
     let walk = c .before .before .before .before in
-    let goes-on = c .before .before .if4 .taken in
+    let goes-on = c .before .before .if5 .taken in
     (goes-on, walk .loop2 .inv .0 goes-on .1, omega (arith, walk .before .most-hops .ensures, few-stations (hop-tests (c .before))))
 
 loop2-less : Of tie.Need-loop2-less
-loop2-less c = rw (eq-eqb _ _ (c .before .before .before .if4 .taken)) (walk-less _ _ _ _ (λ e. let g = c .advance .ensures .1 e in (g .below, g .hops)))
+loop2-less c = rw (eq-eqb _ _ (c .before .before .before .if5 .taken)) (walk-less _ _ _ _ (λ e. let g = c .advance .ensures .1 e in (g .below, g .hops)))
 
 loop2-again : Of tie.Need-loop2-again
 unfolding view
@@ -643,20 +684,20 @@ line-requires-3 : Of tie.Need-line-requires-3
 line-requires-3 c κs = search needs
 
 mul-lines-3 : Of tie.Need-mul-lines-3
-mul-lines-3 c = record { fits = omega (arith, among (walk-tests c)) }
+mul-lines-3 c = record { fits = omega (arith, counted (walk-tests c)) }
 
 slice-write-lines-3 : Of tie.Need-slice-write-lines-3
-slice-write-lines-3 c = room (entered (walk-tests c))
+slice-write-lines-3 c = room (lined-up (walk-tests c))
 
 loop-less-3 : Of tie.Need-loop-less-3
-loop-less-3 c = omega (arith, among (walk-tests c))
+loop-less-3 c = omega (arith, counted (walk-tests c))
 
 loop-again-3 : Of tie.Need-loop-again-3
 loop-again-3 c =
     let spot = looked-at (walk-tests c) .spot-of in
     ended (walk-tests c) (c .line3 .ensures) (as-before (walk-tests c))
-    (trace-happens (tested (walk-tests c)) (c .before .before .before .before .before .before .before .if1 .left) _
-    (sym (walk-tests c .class-of .ensures) ∙ c .before .before .before .before .before .if3 .taken) (spot .result) (spot .ensures .0) _ (c .before .if4 .left) (c .before .before .before .loop2 .inv .1))
+    (trace-happens (tested (walk-tests c)) (c .before .before .before .before .before .before .before .if2 .left) _
+    (sym (walk-tests c .class-of .ensures) ∙ c .before .before .before .before .before .if4 .taken) (spot .result) (spot .ensures .0) _ (c .before .if5 .left) (c .before .before .before .loop2 .inv .1))
 
 -- Down, and an error delivered.
 cut-of-requires : Of tie.Need-cut-of-requires
@@ -740,19 +781,19 @@ line-requires-4 : Of tie.Need-line-requires-4
 line-requires-4 c κs = search needs
 
 mul-lines-4 : Of tie.Need-mul-lines-4
-mul-lines-4 c = record { fits = omega (arith, among (cut-tests (c .before .before .before))) }
+mul-lines-4 c = record { fits = omega (arith, counted (cut-tests (c .before .before .before))) }
 
 slice-write-lines-4 : Of tie.Need-slice-write-lines-4
-slice-write-lines-4 c = room (entered (cut-tests (c .before .before .before)))
+slice-write-lines-4 c = room (lined-up (cut-tests (c .before .before .before)))
 
 loop-less-4 : Of tie.Need-loop-less-4
-loop-less-4 c = omega (arith, among (cut-tests (c .before .before .before)))
+loop-less-4 c = omega (arith, counted (cut-tests (c .before .before .before)))
 
 loop-again-4 : Of tie.Need-loop-again-4
 loop-again-4 c =
     let here = c .before .before .before in
     ended (cut-tests here) (c .line4 .ensures) (as-before (cut-tests here))
-    (cut-7 (tested (cut-tests here)) (cut-passed here .if1 .left) (pieces here) (cut-stays here .left-of .ensures) (here .before .copies .ensures) (here .copies2 .ensures) (over (c .before)))
+    (cut-7 (tested (cut-tests here)) (cut-passed here .if2 .left) (pieces here) (cut-stays here .left-of .ensures) (here .before .copies .ensures) (here .copies2 .ensures) (over (c .before)))
 
 turns-of-requires : Of tie.Need-turns-of-requires
 turns-of-requires c κs = search needs
@@ -831,37 +872,37 @@ line-requires-5 : Of tie.Need-line-requires-5
 line-requires-5 c κs = search needs
 
 mul-lines-5 : Of tie.Need-mul-lines-5
-mul-lines-5 c = record { fits = omega (arith, among (cut-tests (decided c))) }
+mul-lines-5 c = record { fits = omega (arith, counted (cut-tests (decided c))) }
 
 slice-write-lines-5 : Of tie.Need-slice-write-lines-5
-slice-write-lines-5 c = room (entered (cut-tests (decided c)))
+slice-write-lines-5 c = room (lined-up (cut-tests (decided c)))
 
 parted-requires : Of tie.Need-parted-requires
 parted-requires c κs =
     let here = decided (c .before) in
     let k = both (cut-rows-read here) in
-    let rest = cut-stays here .left-of .ensures ∙ ap length (rest-down _ _ _ _ _ _ (c .if7 .taken)) in
+    let rest = cut-stays here .left-of .ensures ∙ ap length (rest-down _ _ _ _ _ _ (c .if8 .taken)) in
     ((k .0, k .1, k .2, known (turn (cut-tests here)) .air-count, rest), omega (arith, fits (cut-has-room (c .before)), rest, here .before .copies .ensures, here .copies2 .ensures))
 
 exchange-requires : Of tie.Need-exchange-requires
 exchange-requires c κs =
     let here = decided (c .before) in
     let k = both (cut-rows-read here) in
-    let at = there (cut-arm here) (c .if7 .left) in
-    let last = cut-stays here .left-of .ensures ∙ rest-one-less _ _ _ _ _ _ (c .if7 .left) at in
+    let at = there (cut-arm here) (c .if8 .left) in
+    let last = cut-stays here .left-of .ensures ∙ rest-one-less _ _ _ _ _ _ (c .if8 .left) at in
     ((k .0, k .1, omega (arith, last, at), omega (arith, last, at, known (turn (cut-tests here)) .air-count)), omega (arith, fits (cut-has-room (c .before)), here .before .copies .ensures))
 
 loop-less-5 : Of tie.Need-loop-less-5
-loop-less-5 c = omega (arith, among (cut-tests (decided (c .before .before))))
+loop-less-5 c = omega (arith, counted (cut-tests (decided (c .before .before))))
 
 loop-again-5 : Of tie.Need-loop-again-5
-loop-again-5 c = cut-ended (c .before .before) _ (array-length (c .parted .result) (c .parted .ok)) (inl (c .before .if7 .taken, c .parted .ensures))
+loop-again-5 c = cut-ended (c .before .before) _ (array-length (c .parted .result) (c .parted .ok)) (inl (c .before .if8 .taken, c .parted .ensures))
 
 loop-less-6 : Of tie.Need-loop-less-6
-loop-less-6 c = omega (arith, among (cut-tests (decided (c .before .before))))
+loop-less-6 c = omega (arith, counted (cut-tests (decided (c .before .before))))
 
 loop-again-6 : Of tie.Need-loop-again-6
-loop-again-6 c = cut-ended (c .before .before) _ (array-length (c .exchange .result) (c .exchange .ok)) (inr (c .before .if7 .left, c .exchange .ensures))
+loop-again-6 c = cut-ended (c .before .before) _ (array-length (c .exchange .result) (c .exchange .ok)) (inr (c .before .if8 .left, c .exchange .ensures))
 
 -- Solicit, Lose, Duplicate, and a request or a reply delivered.
 place-requires-7 : Of tie.Need-place-requires-7
@@ -922,13 +963,13 @@ line-requires-6 : Of tie.Need-line-requires-6
 line-requires-6 c κs = search needs
 
 mul-lines-6 : Of tie.Need-mul-lines-6
-mul-lines-6 c = record { fits = omega (arith, among (change-tests (c .before .before .before))) }
+mul-lines-6 c = record { fits = omega (arith, counted (change-tests (c .before .before .before))) }
 
 slice-write-lines-6 : Of tie.Need-slice-write-lines-6
-slice-write-lines-6 c = room (entered (change-tests (c .before .before .before)))
+slice-write-lines-6 c = room (lined-up (change-tests (c .before .before .before)))
 
 loop-less-7 : Of tie.Need-loop-less-7
-loop-less-7 c = omega (arith, among (change-tests (c .before .before .before)))
+loop-less-7 c = omega (arith, counted (change-tests (c .before .before .before)))
 
 loop-again-7 : Of tie.Need-loop-again-7
 loop-again-7 c =
@@ -988,27 +1029,27 @@ line-requires-7 : Of tie.Need-line-requires-7
 line-requires-7 c κs = search needs
 
 mul-lines-7 : Of tie.Need-mul-lines-7
-mul-lines-7 c = record { fits = omega (arith, among (change-tests (chosen c))) }
+mul-lines-7 c = record { fits = omega (arith, counted (change-tests (chosen c))) }
 
 slice-write-lines-7 : Of tie.Need-slice-write-lines-7
-slice-write-lines-7 c = room (entered (change-tests (chosen c)))
+slice-write-lines-7 c = room (lined-up (change-tests (chosen c)))
 
 exchange-requires-2 : Of tie.Need-exchange-requires-2
 exchange-requires-2 c κs =
     let here = chosen (c .before) in
     let tests = change-tests here in
     let count = turn tests .loop .count in
-    let last = here .before .stay .ensures ∙ ap (λ (drops : Bool). if drops then count - 1 else count) (c .if9 .taken) in
-    let at = gone (here .before .before .before) (c .if9 .taken) in (
+    let last = here .before .stay .ensures ∙ ap (λ (drops : Bool). if drops then count - 1 else count) (c .if10 .taken) in
+    let at = gone (here .before .before .before) (c .if10 .taken) in (
       (few-stations tests, inside (looked-at tests) .0, omega (arith, last, at), omega (arith, last, at, known (turn tests) .air-count)),
       omega (arith, fits-two (has-room (c .before)), here .copies3 .ensures),
     )
 
 loop-less-8 : Of tie.Need-loop-less-8
-loop-less-8 c = omega (arith, among (change-tests (chosen (c .before .before))))
+loop-less-8 c = omega (arith, counted (change-tests (chosen (c .before .before))))
 
 loop-again-8 : Of tie.Need-loop-again-8
-loop-again-8 c = change-ended (c .before .before) _ (array-length (c .exchange2 .result) (c .exchange2 .ok)) (inl (c .before .if9 .taken, c .exchange2 .ensures))
+loop-again-8 c = change-ended (c .before .before) _ (array-length (c .exchange2 .result) (c .exchange2 .ok)) (inl (c .before .if10 .taken, c .exchange2 .ensures))
 
 transmit-requires : Of tie.Need-transmit-requires
 transmit-requires c κs =
@@ -1016,26 +1057,30 @@ transmit-requires c κs =
     ((few-stations (change-tests here), inside (looked-at (change-tests here)) .0), omega (arith, fits-two (has-room (c .before)), here .copies3 .ensures))
 
 loop-less-9 : Of tie.Need-loop-less-9
-loop-less-9 c = omega (arith, among (change-tests (chosen (c .before .before))))
+loop-less-9 c = omega (arith, counted (change-tests (chosen (c .before .before))))
 
 loop-again-9 : Of tie.Need-loop-again-9
-loop-again-9 c = change-ended (c .before .before) _ (array-length (c .transmit .result) (c .transmit .ok)) (inr (c .before .if9 .left, c .transmit .ensures))
+loop-again-9 c = change-ended (c .before .before) _ (array-length (c .transmit .result) (c .transmit .ok)) (inr (c .before .if10 .left, c .transmit .ensures))
 
 -- After the last event.
 same-length : Of tie.Need-same-length
-same-length c = turn-length (c .before .loop .inv .1)
+same-length c = c .before .before .loop .inv .same-length
 
 returns : Of tie.Need-returns
-returns c = let last : c .before .loop .i ≡ length (begin (c .before) .args .kinds .now) = omega (arith, c .before .loop .inv .0, c .loop-test) in
-    let t = rw last at (c .before .loop .inv .1) in
-    (t .ran, (t .fit, t .told-are))
+returns c =
+    let at = c .before .before in
+    turn-ends _ (at .loop .inv) (begun (begin at)) (sym (c .before .goes-on .ensures) ∙ c .if1 .left)
 
 pub run-spec : {M : Type 1} → statement M
 run-spec =
     tie.close
     (tie.spec Inv-loop2 μ-loop2 Inv-loop3 μ-loop3 Inv-loop4 μ-loop4 Inv-loop μ-loop
     loop-holds
-    event-at-requires
+    goes-on-requires
+    slice-read-next-event
+    next-event-requires
+    add-lost
+    line-place-requires
     add-i
     cast-k
     mul-p

@@ -33,8 +33,8 @@ hops-of-requires c κs = search needs
 returns : tie.Need-returns
 unfolding eventAt tabulate
 returns c =
-    let ran = c .before .before .before .before .run .ensures in
-    ran-one _ _ _ _ _ _ _ _ (ran .0) (ran .1 .0) (ran .1 .1) (c .before .before .answer-of .ensures) (c .before .sent-of .ensures) (c .hops-of .ensures)
+    let ran = c .before .before .before .before .before .run .ensures in
+    ran-one _ _ _ _ _ _ _ _ (ran .ran) (ran .fit) (ran .told-are) (c .before .before .answer-of .ensures) (c .before .sent-of .ensures) (c .hops-of .ensures)
 
 pub event-in-range-spec : {M : Type 1} → statement M
 event-in-range-spec =

@@ -1,0 +1,79 @@
+// Where a run takes its events from.
+ghost use mathlib.Core.Path.{_≡_};
+ghost use mathlib.Core.Bool.{false};
+ghost use Prim.Native.Nat.{_+_, _*_, _<_};
+ghost use lib.ListN.{length};
+ghost use lib.Dec.{ltb};
+ghost use Rattle.base.specs.Choice.{if_then_else_};
+ghost use Rattle.steps.specs.Source.{Listed, Follows, Next};
+use crate::lines::answer_of;
+use draining::loses;
+
+// An event: its kind and its operands; and how many packets are lost by it because Deliver was turned down.
+pub struct Event {
+    pub kind: u8,
+    pub a: u8,
+    pub b: u8,
+    pub losses: u32,
+}
+
+// Event i of a list.
+fn event_at(kinds: &[u8], operands: &[u8], i: usize) -> Event
+    requires { ⌜ (i < length (now kinds)) × (2 * i + 1 < length (now operands)) ⌝ }
+    ensures { λ r. ⌜ Listed (now (kinds .entry)) (now (operands .entry)) i r ⌝ }
+{
+    let kind = kinds[i];
+    let a = operands[2 * i];
+    let b = operands[2 * i + 1];
+    Event {
+        kind: kind,
+        a: a,
+        b: b,
+        losses: 0,
+    }
+}
+
+// After this answer, where the air is drained: packet 0 is lost, or delivered.
+fn turn_after(answer: u32) -> Event
+    ensures { λ r. ⌜ Follows answer r ⌝ }
+{
+    if loses(answer) {
+        return Event {
+            kind: 7,
+            a: 0,
+            b: 0,
+            losses: 1,
+        };
+    }
+    Event {
+        kind: 6,
+        a: 0,
+        b: 0,
+        losses: 0,
+    }
+}
+
+// The next event of a run: event i of the list, or, where it drains the air, what follows on the line told last.
+pub fn next_event(drains: bool, kinds: &[u8], operands: &[u8], i: usize, last: u64) -> Event
+    requires { ⌜ (drains ≡ false → (i < length (now kinds)) × (2 * i + 1 < length (now operands))) ⌝ }
+    ensures { λ r. ⌜ Next drains (now (kinds .entry)) (now (operands .entry)) i last r ⌝ }
+{
+    if drains {
+        return turn_after(answer_of(last));
+    }
+    event_at(kinds, operands, i)
+}
+
+// Whether it has one: the list has more, or a packet is in the air.
+pub fn goes_on(drains: bool, i: usize, events: usize, count: u8) -> bool
+    ensures { λ r. ⌜ r ≡ (if drains then ltb 0 count else ltb i events) ⌝ }
+{
+    if drains { 0 < count } else { i < events }
+}
+
+// Where the line of event i is told. A run that drains the air keeps the last line alone.
+pub fn line_place(drains: bool, i: usize) -> usize
+    ensures { λ r. ⌜ r ≡ (if drains then 0 else i) ⌝ }
+{
+    if drains { 0 } else { i }
+}
