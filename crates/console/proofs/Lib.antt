@@ -1,6 +1,7 @@
 pub mod ConsoleLaws
 pub mod LabelResults
 pub mod MadeLaws
+pub mod DrainLaws
 pub mod ScriptResults
 pub mod ShowLaws
 pub mod ShownLaws

@@ -2,16 +2,19 @@
 use Prim.Native.Nat.{ℕ}
 use mathlib.Core.Path.{_≡_, refl, sym, ap, subst, _∙_}
 use mathlib.Core.Bool.{Bool, true, false}
-use mathlib.Core.List.{List}
+use mathlib.Core.List.{List, [], _∷_}
 use native.Mathlib.Omega.{arith}
 use Rattle.base.specs.Results.{Result, refused, accepted}
 use Rattle.model.specs.Memory.{Network, fresh}
-use Rattle.model.specs.Calls.{Call, Open, Effect, after, notOpening, step}
+use Rattle.model.specs.Calls.{Call, Open, Effect, after, notOpening, step, run}
 use Rattle.model.specs.Walks.{Reached}
 use Rattle.model.proofs.Refusals.{open-1, open-accepted}
-use Rattle.model.proofs.HistoryLaws.{madeNetwork, made-holds, made-reached}
+use Rattle.model.proofs.HistoryLaws.{made-reached}
+use Rattle.draining.specs.Draining.{callsOf, Action, call, drain, opens}
 use Rattle.layout.specs.Stored.{storedNetwork}
 use Rattle.console.specs.Console.{tooShort, notMemory, unreadable, calling, Stores, Ends}
+use Rattle.console.specs.Showing.{outOfRange}
+use Rattle.console.specs.Draining.{DrainsBy}
 use Rattle.console.specs.Made.{LeavesBytes, MadeBytes}
 use Rattle.console.proofs.ConsoleLaws.{memory-readable, calling-1, calling-step}
 
@@ -21,13 +24,26 @@ unfolding Ends after
 ends-stores bytes net s (refused number) r next e = subst (λ b. Stores b net) (sym (e .1)) s
 ends-stores bytes net s (accepted x) r next e = e .2
 
-stepped : (c : Call) (bytes : List ℕ) (r : ℕ) (left : List ℕ) (net : Network) → Stores bytes net → LeavesBytes c bytes r left → Stores left (after net (step c net))
-stepped c bytes r left net s e =
+call-stores : (c : Call) (bytes : List ℕ) (r : ℕ) (left : List ℕ) (net : Network) → Stores bytes net → LeavesBytes (call c) bytes r left → Stores left (after net (step c net))
+call-stores c bytes r left net s e =
     let same : calling c bytes ≡ step c net = calling-step c bytes (memory-readable bytes (s .readable) c) ∙ ap (step c) (s .network) in
     subst (λ z. Stores left (after net z)) same (ends-stores bytes net s (calling c bytes) r left e)
 
+-- What draining leaves, the calls of its turns leave.
+drain-stores : (b : Bool) (bytes : List ℕ) (r : ℕ) (left : List ℕ) (net : Network) → Stores bytes net → DrainsBy b bytes r left → (calls : List Call) × Stores left (run calls net)
+unfolding run
+drain-stores true bytes r left net s (told, same) = ([], subst (λ b. Stores b net) (sym same) s)
+drain-stores false bytes r left net s d =
+    (callsOf (d .turns), subst (Stores left) (d .drained .calls ∙ ap (run (callsOf (d .turns))) (s .network)) (d .stores))
+
+stepped : (c : Action) (bytes : List ℕ) (r : ℕ) (left : List ℕ) (net : Network) → Stores bytes net → LeavesBytes c bytes r left
+    → (calls : List Call) × Stores left (run calls net)
+unfolding run
+stepped (call c) bytes r left net s e = (c ∷ [], call-stores c bytes r left net s e)
+stepped drain bytes r left net s e = drain-stores (outOfRange bytes) bytes r left net s e
+
 -- An Open that answers 0 was accepted, and leaves the bytes of fresh memory.
-opened : (n start : ℕ) (bytes left : List ℕ) → LeavesBytes (Open n start) bytes 0 left → (notOpening n start ≡ false) × Stores left (fresh n start)
+opened : (n start : ℕ) (bytes left : List ℕ) → LeavesBytes (opens n start) bytes 0 left → (notOpening n start ≡ false) × Stores left (fresh n start)
 unfolding Ends unreadable
 opened n start bytes left h = go (tooShort bytes) refl (notOpening n start) refl
   where
@@ -45,12 +61,12 @@ opened n start bytes left h = go (tooShort bytes) refl (notOpening n start) refl
         (k, subst (λ x. Ends bytes x 0 left) z h .2)
 
 module _ (bytes : List ℕ) (m : MadeBytes bytes) where
-  made-stores : Stores bytes (madeNetwork LeavesBytes Stores opened stepped bytes m)
-  made-stores = made-holds LeavesBytes Stores opened stepped bytes m
+  made-stores : (net : Network) × Stores bytes net × Reached net
+  made-stores = made-reached opens LeavesBytes Stores opened stepped bytes m
 
   -- So they are memory, and hold a network that a list of calls reaches.
   pub made-readable : notMemory bytes ≡ false
-  made-readable = made-stores .readable
+  made-readable = made-stores .1 .readable
 
   pub made-reaches : Reached (storedNetwork bytes)
-  made-reaches = subst Reached (sym (made-stores .network)) (made-reached LeavesBytes Stores opened stepped bytes m)
+  made-reaches = let (net, stores, reached) = made-stores in subst Reached (sym (stores .network)) reached

@@ -1,4 +1,4 @@
--- What the console's functions give: two numbers in one, the answer in the lower 32 bits and a count in the upper.
+-- What the console's functions give: two numbers in one, the answer in the lower 32 bits and a count in the upper; or three.
 use Prim.Native.Nat.{ℕ, _+_, _*_, _/_, _%_}
 use lib.ListN.{length}
 use lib.Dec.{eqb}
@@ -15,6 +15,19 @@ answerOf r = r % 4_294_967_296
 
 abbrev pub countOf : ℕ → ℕ
 countOf r = r / 4_294_967_296
+
+-- An answer and two counts: the answer in the lowest 16 bits, then the counts, in 24 bits each.
+abbrev pub packedTwo : (answer first second : ℕ) → ℕ
+packedTwo answer first second = answer + 65_536 * first + 1_099_511_627_776 * second
+
+abbrev pub shortAnswerOf : ℕ → ℕ
+shortAnswerOf r = r % 65_536
+
+abbrev pub firstOf : ℕ → ℕ
+firstOf r = r / 65_536 % 16_777_216
+
+abbrev pub secondOf : ℕ → ℕ
+secondOf r = r / 1_099_511_627_776
 
 -- A number told, or the number of the refusal.
 unfoldable pub telling : Result ℕ → ℕ

@@ -1,11 +1,11 @@
 // The console: entry points for C on numbers and byte slices (include/srp.h, docs/LAYOUT.md). No function asks anything of its caller.
 // Results are two numbers in one: specs/Packed.antt.
 ghost use mathlib.Core.Path.{_≡_};
-ghost use Prim.Native.Nat.{_≤_};
+ghost use Prim.Native.Nat.{_≤_, _<_};
 ghost use lib.ListN.{length};
 ghost use Rattle.base.specs.Results.{isRefusal};
 ghost use Rattle.layout.specs.Places.{layoutLength};
-ghost use Rattle.console.specs.Packed.{packed};
+ghost use Rattle.console.specs.Packed.{packed, packedTwo};
 ghost use Rattle.console.specs.Console.{notMemory};
 ghost use Rattle.console.specs.Showing.{outOfRange};
 ghost use Rattle.console.specs.Contracts.{Finished};
@@ -17,6 +17,7 @@ use network::range::in_range;
 use steps::Done;
 
 pub mod calls;
+pub mod drain;
 pub mod labels;
 pub mod previewing;
 pub mod scripts;
@@ -28,6 +29,14 @@ fn packed(answer: u32, count: u32) -> u64
     ensures { λ r. ⌜ r ≡ packed answer count ⌝ }
 {
     answer as u64 + 4294967296 * (count as u64)
+}
+
+// An answer and two counts in one number.
+fn packed_two(answer: u32, first: u32, second: u32) -> u64
+    requires { ⌜ (answer < 65_536) × (first < 16_777_216) × (second < 16_777_216) ⌝ }
+    ensures { λ r. ⌜ r ≡ packedTwo answer first second ⌝ }
+{
+    answer as u64 + 65536 * (first as u64) + 1099511627776 * (second as u64)
 }
 
 // Whether the bytes are too few, or have no meaning.

@@ -61,6 +61,10 @@ potential-start net kept =
     omega (arith, limit-is n (length (net .air)) (omega arith))
 
 -- The bound is largest with 16 stations and 128 packets.
+pub limit-largest : turnLimit 16 128 ≡ 69_136
+unfolding turnLimit
+limit-largest = refl
+
 limit-most : (n p : ℕ) → n ≤ 16 → p ≤ 128 → turnLimit n p ≤ 69_136
 unfolding turnLimit
 limit-most n p hn hp =
@@ -174,6 +178,7 @@ module _ (start : Network) (begins : Invariant ⊥ start) where
           drains = drains;
           only = λ turns′ left′ other. drains-only turns turns′ start net left′ drains other;
           bounded = omega (arith, turns-count turns, d .left);
+          largest = omega (arith, limit-largest, most-turns);
           in-range = invariant-in-range net (d .kept);
           calls = is;
           reached = λ r. subst Reached (sym is) (reached-more start (callsOf turns) r);

@@ -7,7 +7,7 @@ use lib.ListN.{length}
 use lib.Dec.{eqb}
 use Rattle.base.specs.Results.{refused, accepted}
 use Rattle.model.specs.Memory.{Network, memoryInRange}
-use Rattle.model.specs.Calls.{Call, Deliver, Lose, Effect, step, run}
+use Rattle.model.specs.Calls.{Call, Open, Deliver, Lose, Effect, step, run}
 use Rattle.model.specs.Walks.{Reached}
 use Rattle.model.proofs.Range.{Sized}
 
@@ -63,10 +63,20 @@ pub record Drained (net : Network) (turns : List Turn) (left : Network) : Type 0
   pub only : (turns′ : List Turn) (left′ : Network) → Drains turns′ net left′ → (turns′ ≡ turns) × (left′ ≡ left)
   -- "the two counts together are at most ..".
   pub bounded : deliveriesIn turns + lossesIn turns ≤ turnLimit (net .n) (length (net .air))
+  -- ".., which is 69,136 for n = 16 and p = 128": no memory has a larger bound.
+  pub largest : turnLimit (net .n) (length (net .air)) ≤ turnLimit 16 128
   pub in-range : memoryInRange left ≡ true
   -- "Walks after it are bounded as after the single calls": it is a list of these.
   pub calls : left ≡ run (callsOf turns) net
   pub reached : Reached net → Reached left
+
+-- What lists of calls are made of (01, "The list in demand 3"): the calls of 01, and draining the air.
+pub data Action : Type 0 where
+  call : Call → Action
+  drain : Action
+
+abbrev pub opens : (n start : ℕ) → Action
+opens n start = call (Open n start)
 
 -- F-3: the repetition ends, from every memory in range, whatever made it.
 unfoldable pub AllDrain : Type 0

@@ -64,9 +64,9 @@ fn put_rehearsal(out: &mut [u8], n: u8, start: u64, kinds: &[u8], operands: &[u8
 {
     let mut lines = [0u64; EVENT_LIMIT];
     let memory = fresh(n, start);
-    let last = run(memory, kinds, operands, &mut lines);
+    let ran = run(memory, false, kinds, operands, &mut lines);
     let end = put_event_lines(out, kinds, operands, &lines);
-    put_label_lines(out, end, last)
+    put_label_lines(out, end, ran.memory)
 }
 
 // What a script prints, at the start of the lent array, whose places past it are kept; the result is its length. No walk along the

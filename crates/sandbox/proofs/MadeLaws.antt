@@ -2,16 +2,20 @@
 use Prim.Native.Nat.{ℕ}
 use mathlib.Core.Path.{_≡_, refl, sym, ap, subst, _∙_}
 use mathlib.Core.Bool.{Bool, true, false}
+use mathlib.Core.List.{List, [], _∷_}
 use native.Mathlib.Omega.{arith}
-use Rattle.model.specs.Memory.{Network, fresh}
-use Rattle.model.specs.Calls.{Call, Open, Effect, after, notOpening, step, Traced, trace}
+use Rattle.model.specs.Memory.{Network, fresh, memoryInRange}
+use Rattle.model.specs.Calls.{Call, Effect, after, notOpening, step, run, Traced, trace}
 use Rattle.model.specs.Walks.{Reached}
 use Rattle.model.proofs.Refusals.{open-1, open-accepted}
-use Rattle.model.proofs.HistoryLaws.{made-holds, made-reached}
+use Rattle.model.proofs.HistoryLaws.{made-reached}
+use Rattle.draining.specs.Draining.{callsOf, Action, call, drain, opens}
 use Rattle.network.specs.declared.Memory.{Memory}
 use Rattle.network.specs.View.{view}
 use Rattle.steps.specs.declared.Done.{Done}
+use Rattle.steps.specs.declared.Drained.{Drained}
 use Rattle.steps.specs.Called.{done, Called}
+use Rattle.steps.specs.Drained.{drained, DrainEnds}
 use Rattle.steps.proofs.CallLaws.{called-after}
 use Rattle.steps.proofs.TraceLaws.{walks}
 use Rattle.sandbox.specs.Made.{LeavesMemory, MadeMemory, WalksEndIn}
@@ -21,7 +25,7 @@ abbrev Holds : Memory → Network → Type 0
 Holds memory net = view memory ≡ net
 
 -- An Open that answers 0 was accepted, and gives fresh memory.
-opened : (n start : ℕ) (memory left : Memory) → LeavesMemory (Open n start) memory 0 left → (notOpening n start ≡ false) × (view left ≡ fresh n start)
+opened : (n start : ℕ) (memory left : Memory) → LeavesMemory (opens n start) memory 0 left → (notOpening n start ≡ false) × (view left ≡ fresh n start)
 unfolding Called
 opened n start memory left (sent, called) = go (notOpening n start) refl
   where
@@ -32,16 +36,30 @@ opened n start memory left (sent, called) = go (notOpening n start) refl
     go false e =
         (e, ap (λ (x : Effect). x .net) (subst (λ z. Called memory z (done left 0 sent)) (open-accepted n start (view memory) e) called .0))
 
-stepped : (c : Call) (memory : Memory) (answer : ℕ) (left : Memory) (net : Network) → view memory ≡ net → LeavesMemory c memory answer left
-    → view left ≡ after net (step c net)
-stepped c memory answer left net h (sent, called) =
-    called-after memory (step c (view memory)) (done left answer sent) called ∙ ap (λ (x : Network). after x (step c x)) h
+-- What draining leaves, the calls of its turns leave.
+drain-leaves : (b : Bool) (memory : Memory) (r : Drained) → DrainEnds b memory r → (calls : List Call) × (view (r .memory) ≡ run calls (view memory))
+unfolding run
+drain-leaves true memory r d = (callsOf (d .turns), d .drained .calls)
+drain-leaves false memory r e = ([], ap (λ (x : Drained). view (x .memory)) e)
+
+stepped : (c : Action) (memory : Memory) (answer : ℕ) (left : Memory) (net : Network) → view memory ≡ net → LeavesMemory c memory answer left
+    → (calls : List Call) × (view left ≡ run calls net)
+unfolding run
+stepped (call c) memory answer left net h (sent, called) =
+    (c ∷ [], called-after memory (step c (view memory)) (done left answer sent) called ∙ ap (λ (x : Network). after x (step c x)) h)
+stepped drain memory answer left net h (deliveries, losses, d) =
+    let (calls, e) = drain-leaves (memoryInRange (view memory)) memory (drained left answer deliveries losses) d in
+    (calls, e ∙ ap (run calls) h)
 
 pub made-memory-reached : (memory : Memory) → MadeMemory memory → Reached (view memory)
-made-memory-reached memory m =
-    subst Reached (sym (made-holds LeavesMemory Holds opened stepped memory m)) (made-reached LeavesMemory Holds opened stepped memory m)
+made-memory-reached memory m = let (net, holds, reached) = made-reached opens LeavesMemory Holds opened stepped memory m in subst Reached (sym holds) reached
 
--- The claims of Trace and of a run.
+-- Draining keeps what calls reach.
+pub drain-reached : (b : Bool) (memory : Memory) (r : Drained) → DrainEnds b memory r → Reached (view memory) → Reached (view (r .memory))
+drain-reached true memory r d reached = d .drained .reached reached
+drain-reached false memory r e reached = subst (λ (x : Drained). Reached (view (x .memory))) (sym e) reached
+
+-- The claims of Trace.
 module _ (memory : Memory) (a t : ℕ) (told : Traced) (e : told ≡ trace (view memory) a t) where
   pub reached-ends : Reached (view memory) → WalksEndIn memory a t told
   unfolding WalksEndIn
@@ -49,3 +67,23 @@ module _ (memory : Memory) (a t : ℕ) (told : Traced) (e : told ≡ trace (view
 
   pub made-ends : MadeMemory memory → WalksEndIn memory a t told
   made-ends m = reached-ends (made-memory-reached memory m)
+
+-- The claims of what leaves a network that calls reach where they reached the one before it.
+module _ (memory next : Memory) (keeps : Reached (view memory) → Reached (view next)) where
+  abbrev pub AllEnd : Type 0
+  AllEnd = (a t : ℕ) → WalksEndIn next a t (trace (view next) a t)
+
+  pub reached-after : Reached (view memory) → AllEnd
+  reached-after r a t = reached-ends next a t _ refl (keeps r)
+
+  pub made-after : MadeMemory memory → AllEnd
+  made-after m = reached-after (made-memory-reached memory m)
+
+-- What draining claims, from how it ended.
+module _ (memory : Memory) (r : Drained) where
+  pub drain-claims : (b : Bool) → memoryInRange (view memory) ≡ b → DrainEnds b memory r
+      → DrainEnds (memoryInRange (view memory)) memory r
+      × ((MadeMemory memory → (a t : ℕ) → WalksEndIn (r .memory) a t (trace (view (r .memory)) a t)) × (Reached (view memory) → (a t : ℕ) → WalksEndIn (r .memory) a t (trace (view (r .memory)) a t)))
+  drain-claims b e d =
+      let keeps = drain-reached b memory r d in
+      (subst (λ x. DrainEnds x memory r) (sym e) d, (made-after memory (r .memory) keeps, reached-after memory (r .memory) keeps))

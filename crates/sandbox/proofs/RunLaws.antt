@@ -31,7 +31,7 @@ use Rattle.steps.proofs.CallLaws.{called-refused}
 use Rattle.steps.proofs.RunLaws.{ran-in-range, ran-after}
 use Rattle.sandbox.specs.Made.{MadeMemory, WalksEndIn}
 use Rattle.sandbox.specs.Telling.{told, Tells}
-use Rattle.sandbox.proofs.MadeLaws.{made-memory-reached, reached-ends}
+use Rattle.sandbox.proofs.MadeLaws.{made-after, reached-after}
 
 module _ (memory : Memory) (kinds operands lines : List ℕ) where
   -- What the contract says.
@@ -43,12 +43,9 @@ module _ (memory : Memory) (kinds operands lines : List ℕ) where
       Called memory (running (view memory) kinds operands (length lines)) r
       × (Tells (view memory) kinds operands lines lines′ × ((MadeMemory memory → Ends (r .memory)) × ((Reached (view memory) → Ends (r .memory)) × (r .answer ≡ 0 → ToldFit (view memory) kinds operands (length kinds)))))
 
-  ends : {F : Type 0} (next : Memory) → (Reached (view memory) → Reached (view next)) → F → (MadeMemory memory → Ends next) × ((Reached (view memory) → Ends next) × F)
-  ends next f fit = (λ m a t. reached-ends next a t _ refl (f (made-memory-reached memory m)), (λ r a t. reached-ends next a t _ refl (f r), fit))
-
   pub run-refused : (number : ℕ) → number ≢ 0 → running (view memory) kinds operands (length lines) ≡ refused number → Runs (done memory number 0) lines
   unfolding Tells mapped putInto
-  run-refused number some e = (called-refused memory _ number e, (rw e, ends memory (λ r. r) (λ z. absurd (some z))))
+  run-refused number some e = (called-refused memory _ number e, (rw e, (made-after memory memory (λ r. r), (reached-after memory memory (λ r. r), λ z. absurd (some z)))))
 
   -- Past the first three tests.
   module _ (listed : notEvents (length kinds) (length operands) ≡ false) (ranged : memoryInRange (view memory) ≡ true) (right : allEvents kinds operands ≡ true) where
@@ -78,6 +75,6 @@ module _ (memory : Memory) (kinds operands lines : List ℕ) where
             (
               rw (e, map-tabulate told (length kinds) (lineAt (view memory) kinds operands))
                   (told-are ∙ sets-over lines _ (omega (arith, tabulate-length (length kinds) (steps.told (view memory) kinds operands)))),
-              ends next reached (λ z. fit),
+              (made-after memory next reached, (reached-after memory next reached, λ z. fit)),
             ),
           )

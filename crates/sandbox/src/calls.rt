@@ -2,12 +2,15 @@
 ghost use mathlib.Core.Path.{_≡_};
 ghost use mathlib.Core.Logic.{_≢_};
 ghost use mathlib.Core.Bool.{false};
+ghost use Prim.Native.Nat.{ℕ};
+ghost use Rattle.model.specs.Memory.{memoryInRange};
 ghost use Rattle.model.specs.Calls.{Open, Up, Down, Solicit, GiveUp, Expire, Deliver, Lose, Duplicate, step, traced, trace};
 ghost use Rattle.model.specs.Events.{notEvent, callOf};
 ghost use Rattle.model.specs.Preview.{preview};
 ghost use Rattle.model.specs.Walks.{Reached};
 ghost use Rattle.network.specs.View.{view};
 ghost use Rattle.steps.specs.Called.{Called};
+ghost use Rattle.steps.specs.Drained.{DrainEnds};
 ghost use Rattle.previews.specs.Shown.{previewOf};
 ghost use Rattle.sandbox.specs.Made.{MadeMemory, WalksEndIn};
 use network::Memory;
@@ -18,7 +21,9 @@ use previews::gather;
 use previews::preview_of;
 use previews::turned_down;
 use steps::Done;
+use steps::Drained;
 use steps::Traced;
+use steps::drain::drain_in_range;
 use steps::single::event_in_range;
 use validation::narrow;
 use validation::open_refused;
@@ -112,6 +117,24 @@ pub fn preview(memory: Memory, k: usize) -> Preview
     }
     let a = narrow(k);
     preview_of(gather(memory, a), a)
+}
+
+// Draining the air: packet 0 is delivered again and again, and lost where Deliver gives 7, until no packet is in the air. No walk goes in a circle
+// in what it leaves of memory that the calls made.
+pub fn drain(memory: Memory) -> Drained
+    ensures drained { λ r. ⌜ DrainEnds (memoryInRange (view memory)) memory r ⌝ }
+    ensures loop_free { λ r. ⌜ (MadeMemory memory → (a t : ℕ) → WalksEndIn (r .memory) a t (trace (view (r .memory)) a t)) ⌝ }
+    ensures reached { λ r. ⌜ (Reached (view memory) → (a t : ℕ) → WalksEndIn (r .memory) a t (trace (view (r .memory)) a t)) ⌝ }
+{
+    if !in_range(memory) {
+        return Drained {
+            memory: memory,
+            answer: 1,
+            deliveries: 0,
+            losses: 0,
+        };
+    }
+    drain_in_range(memory)
 }
 
 // Lose: packet k is removed.

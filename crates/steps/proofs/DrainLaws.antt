@@ -137,7 +137,7 @@ module _ {memory : Memory} {lines′ : List ℕ} {now : Memory} {lost i : ℕ} (
         let gave = subst (λ z. Called now z (done (r .memory) (r .answer) (r .sent))) lose called .0 in
         let a = subst (λ b. Awaits b (s .answer) (view now) i (eventsIn (s .turns))) loses (s .awaits) in
         let leaves : TurnLeaves loss (view now) (view (r .memory)) =
-            (s .answer, effect 0 0 (removePacket 0 (view now)), a .0, loses, lose, ap (λ (x : Effect). x .net) gave) in
+        (s .answer, effect 0 0 (removePacket 0 (view now)), a .0, loses, lose, ap (λ (x : Effect). x .net) gave) in
         let counts = loss-more (s .turns) in
         record {
           turns = s .turns ++ (loss ∷ []);

@@ -47,7 +47,13 @@ use station::sending::transmit;
 
 // Events one after the other: those of a list, whose lines the lent array tells; or, where the run drains the air, packet 0 delivered or lost
 // until no packet is left.
-pub fn run(mut memory: Memory, drains: bool, kinds: &[u8], operands: &[u8], lines: &mut [u64]) -> Run
+pub fn run(
+    mut memory: Memory,
+    drains: bool,
+    kinds: &[u8],
+    operands: &[u8],
+    lines: &mut [u64],
+) -> Run
     requires { ⌜ memoryInRange (view memory) ≡ true ⌝ }
     requires { ⌜ (length (now kinds) ≤ eventLimit) × (length (now operands) ≡ 2 * length (now kinds)) × (length (now kinds) ≤ length (now lines)) ⌝ }
     requires { ⌜ (drains ≡ true → now lines ≡ 0 ∷ []) ⌝ }

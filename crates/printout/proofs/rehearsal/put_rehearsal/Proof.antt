@@ -1,9 +1,10 @@
 -- `rehearsal::put_rehearsal` meets its contract: the lines of the events are put, and after them the labels of the memory that the run left.
-use mathlib.Core.Path.{_≡_, sym, ap, _∙_}
+use mathlib.Core.Path.{_≡_, refl, sym, ap, _∙_}
 use mathlib.Core.Bool.{true}
 use mathlib.Core.List.{flatMap}
 use native.Mathlib.Omega.{arith}
 use borrow.Author.Needs.{needs}
+use Rattle.base.proofs.Booleans.{clash}
 use Rattle.model.specs.Memory.{memoryInRange}
 use Rattle.model.specs.Printout.{eventLines}
 use Rattle.model.proofs.Refusals.{opening-tells}
@@ -33,7 +34,7 @@ slice-aggregate-run c = search needs
 run-requires : tie.Need-run-requires
 run-requires c κs =
     let start = c .before .before .before .before .before in
-    (ranged (c .before), (start .pre .0 .1, start .pre .0 .2, search needs))
+    (ranged (c .before), ((start .pre .0 .1, start .pre .0 .2, search needs), λ d. clash d refl))
 
 slice-aggregate-put-event-lines : tie.Need-slice-aggregate-put-event-lines
 slice-aggregate-put-event-lines c = search needs
@@ -49,13 +50,13 @@ put c =
     let args = run .before .before .before .before .before .before .args in
     let memory = run .before .before .fresh .result in
     c .put-event-lines .ensures .0 (view memory)
-    (told-array (view memory) (args .kinds .now) (args .operands .now) _ _ (omega arith) (run .run .ensures .1 .0) (run .run .ensures .1 .1))
+    (told-array (view memory) (args .kinds .now) (args .operands .now) _ _ (omega arith) (run .run .ensures .fit) (run .run .ensures .told-are))
 
 put-label-lines-requires : tie.Need-put-label-lines-requires
 put-label-lines-requires c κs =
     let run = c .before .before .before .before .before .before .before in
     let fresh = run .before .before in
-    (ran-in-range (fresh .fresh .result) _ _ _ _ (run .run .ensures .0) (ranged fresh), omega (arith, puts-length (put (c .before .before .before))))
+    (ran-in-range (fresh .fresh .result) _ _ _ _ (run .run .ensures .ran) (ranged fresh), omega (arith, puts-length (put (c .before .before .before))))
 
 returns : tie.Need-returns
 unfolding view
@@ -65,7 +66,7 @@ returns c =
     let fresh = run .before .before in
     let start = fresh .before .before .before .before in
     let args = start .args in
-    let whole = text-whole (args .n) (args .start) (args .kinds .now) (args .operands .now) (fresh .fresh .result) (run .run .result) (fresh .fresh .ensures) (run .run .ensures .0) in
+    let whole = text-whole (args .n) (args .start) (args .kinds .now) (args .operands .now) (fresh .fresh .result) (run .run .result .memory) (fresh .fresh .ensures) (run .run .ensures .ran) in
     (rw (sym whole) (puts-append (put lines) (c .before .before .put-label-lines .ensures .0)), omega (arith, start .pre .0 .1))
 
 same-length : tie.Need-same-length

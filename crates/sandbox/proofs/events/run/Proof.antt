@@ -1,10 +1,10 @@
 -- `events::run` meets its contract: refused with 10, 1, 11 or 12, or the events one after the other; and the claim of demand 3.
-use mathlib.Core.Path.{_≡_, sym, ap, _∙_}
+use mathlib.Core.Path.{_≡_, refl, sym, ap, _∙_}
 use mathlib.Core.Bool.{true, false, not}
 use lib.ListN.{length}
 use native.Mathlib.Omega.{arith}
 use borrow.Author.Needs.{needs}
-use Rattle.base.proofs.Booleans.{not-was-true, not-was-false}
+use Rattle.base.proofs.Booleans.{clash, not-was-true, not-was-false}
 use Rattle.base.proofs.Results.{refuse-holds, refuse-passes}
 use Rattle.model.specs.Memory.{memoryInRange}
 use Rattle.model.specs.Events.{notEvents, allEvents, running}
@@ -62,17 +62,17 @@ run-requires : tie.Need-run-requires
 run-requires c κs =
     let past = c .before .before .before .before in
     let w = events-tell _ _ (listed (past .before .before)) in
-    (ranged past, (w .0, w .1, omega arith))
+    (ranged past, ((w .0, w .1, omega arith), λ d. clash d refl))
 
 same-length : tie.Need-same-length
 same-length c = search needs
 
 returns-5 : tie.Need-returns-5
 returns-5 c =
-    let end = c .before .before .before .before .before in
+    let ran = c .before .before .before .run .ensures in
+    let end = c .before .before .before .before .before .before in
     let past = end .before .before in
-    let ran = c .before .before .run .ensures in
-    run-accepted _ _ _ _ (listed (past .before .before)) (ranged past) (right end) _ _ (ran .0) (omega arith) (ran .1 .1) (ran .1 .0)
+    run-accepted _ _ _ _ (listed (past .before .before)) (ranged past) (right end) _ _ (ran .ran) (omega arith) (ran .told-are) (ran .fit)
 
 pub run-spec : {M : Type 1} → statement M
 run-spec =

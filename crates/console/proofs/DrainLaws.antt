@@ -1,0 +1,97 @@
+-- Draining at the console, by how it ends.
+use Prim.Native.Nat.{ℕ, _≤_, _<_}
+use mathlib.Core.Path.{_≡_, refl, sym, ap, subst, _∙_}
+use mathlib.Core.Logic.{_≢_}
+use mathlib.Core.Bool.{Bool, true, false, not, _||_}
+use mathlib.Core.List.{List}
+use lib.ListN.{length}
+use native.Mathlib.Omega.{arith}
+use Rattle.codec.specs.Bytes.{over}
+use Rattle.model.specs.Memory.{Network, memoryInRange}
+use Rattle.model.specs.Calls.{trace}
+use Rattle.model.specs.Walks.{WalksEnd, Reached, LoopFree}
+use Rattle.model.proofs.Walking.{loop-free}
+use Rattle.draining.specs.Draining as draining
+use Rattle.draining.proofs.Ending.{limit-largest}
+use Rattle.network.specs.declared.Memory.{Memory}
+use Rattle.network.specs.View.{view}
+use Rattle.layout.specs.Places.{layoutLength}
+use Rattle.layout.specs.Stored.{storedNetwork}
+use Rattle.layout.specs.Written.{networkBytes}
+use Rattle.layout.specs.Fits.{NetworkFits}
+use Rattle.steps.specs.declared.Drained.{Drained}
+use Rattle.steps.specs.Drained.{DrainedTo, DrainEnds}
+use Rattle.console.specs.Packed.{packedTwo, shortAnswerOf, firstOf, secondOf}
+use Rattle.console.specs.Console.{notMemory}
+use Rattle.console.specs.Showing.{outOfRange}
+use Rattle.console.specs.Draining.{DrainsBy, DrainsBytes}
+use Rattle.console.specs.Made.{MadeBytes}
+use Rattle.console.proofs.ConsoleLaws.{written-stores}
+use Rattle.console.proofs.MadeLaws.{made-reaches}
+
+-- The counts fit their places, and are read back.
+pub drained-few : {memory : Memory} {d : Drained} → DrainedTo memory d → (d .deliveries < 16_777_216) × (d .losses < 16_777_216)
+drained-few t =
+    let most = t .drained .bounded in
+    let few = t .drained .largest in
+    (omega (arith, limit-largest, t .deliveries), omega (arith, limit-largest, t .losses))
+
+unpacked-two : (first second : ℕ) → first < 16_777_216 → (shortAnswerOf (packedTwo 0 first second) ≡ 0) × (firstOf (packedTwo 0 first second) ≡ first) × (secondOf (packedTwo 0 first second) ≡ second)
+unpacked-two first second h = (omega arith, omega arith, omega arith)
+
+module _ (memory : Memory) (d : Drained) where
+  -- An answer other than 0 is of memory out of range.
+  drain-refused : (b : Bool) → DrainEnds b memory d → d .answer ≢ 0 → b ≡ false
+  drain-refused true t q = absurd (q (t .answer))
+  drain-refused false e q = refl
+
+  drain-accepted : (b : Bool) → DrainEnds b memory d → d .answer ≡ 0 → (b ≡ true) × DrainedTo memory d
+  drain-accepted true t q = (refl, t)
+  drain-accepted false e q = let one : d .answer ≡ 1 = ap (λ (x : Drained). x .answer) e in absurd (omega arith)
+
+  pub drained-to : DrainEnds (memoryInRange (view memory)) memory d → d .answer ≡ 0 → DrainedTo memory d
+  drained-to ends q = drain-accepted (memoryInRange (view memory)) ends q .1
+
+-- What the contract says.
+module _ (bytes : List ℕ) where
+  abbrev Claims : (r : ℕ) → (bytes′ : List ℕ) → Type 0
+  Claims r bytes′ =
+      DrainsBytes bytes r bytes′
+      × (MadeBytes bytes → (a t : ℕ) → a < storedNetwork bytes′ .n → t < storedNetwork bytes′ .n → a ≢ t → WalksEnd (storedNetwork bytes′) a t (trace (storedNetwork bytes′) a t))
+
+  reaches : (b : Bool) (r : ℕ) (bytes′ : List ℕ) → DrainsBy b bytes r bytes′ → Reached (storedNetwork bytes) → Reached (storedNetwork bytes′)
+  reaches true r bytes′ (told, same) h = subst (λ x. Reached (storedNetwork x)) (sym same) h
+  reaches false r bytes′ d h = subst Reached (sym (d .stores .network)) (d .drained .reached h)
+
+  claims : (b : Bool) (r : ℕ) (bytes′ : List ℕ) → outOfRange bytes ≡ b → DrainsBy b bytes r bytes′ → Claims r bytes′
+  unfolding LoopFree
+  claims b r bytes′ e d =
+      (subst (λ x. DrainsBy x bytes r bytes′) (sym e) d, λ made a t ha ht apart. loop-free (storedNetwork bytes′) (reaches b r bytes′ d (made-reaches bytes made)) a t ha ht apart)
+
+  pub drain-unreadable : notMemory bytes ≡ true → Claims 1 bytes
+  unfolding outOfRange
+  drain-unreadable h = claims true 1 bytes (ap (λ (x : Bool). x || not (memoryInRange (storedNetwork bytes))) h) (refl, refl)
+
+  module _ (h : notMemory bytes ≡ false) (memory : Memory) (same : view memory ≡ storedNetwork bytes) (d : Drained) (ends : DrainEnds (memoryInRange (view memory)) memory d) where
+    out-is : outOfRange bytes ≡ not (memoryInRange (view memory))
+    unfolding outOfRange
+    out-is = rw (h, same)
+
+    pub drain-out : d .answer ≢ 0 → Claims 1 bytes
+    drain-out q = claims true 1 bytes (out-is ∙ ap not (drain-refused memory d (memoryInRange (view memory)) ends q)) (refl, refl)
+
+    pub drain-written : d .answer ≡ 0 → layoutLength ≤ length bytes → {r : ℕ} {bytes′ : List ℕ} → r ≡ packedTwo 0 (d .deliveries) (d .losses)
+        → (bytes′ ≡ over (networkBytes (view (d .memory))) bytes) × NetworkFits (view (d .memory)) → Claims r bytes′
+    drain-written q long {r} {bytes′} result (put, fits) =
+        let (ranged, t) = drain-accepted memory d (memoryInRange (view memory)) ends q in
+        let parts = unpacked-two (d .deliveries) (d .losses) (drained-few t .0) in
+        claims false r bytes′ (out-is ∙ ap not ranged) (record {
+          turns = t .turns;
+          left = view (d .memory);
+          drained = subst (λ (net : Network). draining.Drained net (t .turns) (view (d .memory))) same (t .drained);
+          answer = ap shortAnswerOf result ∙ parts .0;
+          deliveries = ap firstOf result ∙ parts .1 ∙ t .deliveries;
+          losses = ap secondOf result ∙ parts .2 ∙ t .losses;
+          written = put;
+          stores = written-stores (view (d .memory)) fits (t .drained .in-range) bytes bytes′ long put;
+        })
