@@ -15,8 +15,10 @@
  *
  * RESULTS. Every function returns 64 bits. SRP_ANSWER is the low half: 0, a refusal number (1 to 99,
  * of which 1 to 12 are in use) or an outcome number (101 to 133). SRP_COUNT is the high half: what the
- * function's comment says, and 0 where the call is turned down. srp_new_label and srp_script_start have
- * results of their own.
+ * function's comment says, and 0 where the call is turned down. A function that counts two things has
+ * its answer in the lowest 16 bits, SRP_SHORT_ANSWER, and then SRP_FIRST_COUNT and SRP_SECOND_COUNT of
+ * 24 bits each; turned down, it too returns the refusal number alone. srp_new_label and
+ * srp_script_start have results of their own.
  *
  * STACK. A call uses the caller's stack and allocates nothing. Up to 184,632 bytes were measured
  * (docs/LAYOUT.md, "Stack"); the library's tests fail where a call needs over 262,144.
@@ -31,7 +33,7 @@
  *   2: a station is not below n, or the two are equal.
  *   7: over 128 packets would be in the air after the call.
  *
- * ACCEPTED CALLS, from srp_open to srp_duplicate, leave in the first SRP_LENGTH bytes of memory those
+ * ACCEPTED CALLS, from srp_open to srp_drain, leave in the first SRP_LENGTH bytes of memory those
  * of the network after the step that 01 writes. Places past a count are zeros; what tables hold for
  * no station is written back (docs/LAYOUT.md, "After a call"). Bytes from SRP_LENGTH on are kept. The
  * network is in range again: while nobody else writes to the slice, no call on it gets 1 (memory).
@@ -50,9 +52,14 @@ extern "C" {
 #define SRP_ANSWER(r) ((uint32_t)((r) & 0xffffffffu))
 #define SRP_COUNT(r) ((uint32_t)((r) >> 32))
 
+/* A result with two counts. */
+#define SRP_SHORT_ANSWER(r) ((uint32_t)((r) & 0xffffu))
+#define SRP_FIRST_COUNT(r) ((uint32_t)((r) >> 16 & 0xffffffu))
+#define SRP_SECOND_COUNT(r) ((uint32_t)((r) >> 40))
+
 /*
- * Whether a result is a refusal: the answer is not 0 and below 100. Not for srp_new_label and
- * srp_script_start.
+ * Whether a result, with one count or two, is a refusal: the answer is not 0 and below 100. Not for
+ * srp_new_label and srp_script_start.
  */
 #define SRP_REFUSED(r) (SRP_ANSWER(r) - 1u < 99u)
 
@@ -112,6 +119,7 @@ enum srp_event_kind {
 #define SRP_MAX_SUCCESSORS 4
 #define SRP_MAX_PACKETS 128
 #define SRP_MAX_EVENTS 4096
+#define SRP_MAX_TURNS 69136 /* of srp_drain */
 
 /* The memory: its length, where each part begins, and how many bytes an entry has. */
 #define SRP_LENGTH 31586
@@ -253,6 +261,19 @@ uint64_t srp_lose(uint8_t *memory, size_t length, size_t k);
  * the copy does not count as sent.
  */
 uint64_t srp_duplicate(uint8_t *memory, size_t length, size_t k);
+
+/* What srp_drain counts. */
+#define SRP_DELIVERIES(r) SRP_FIRST_COUNT(r)
+#define SRP_LOSSES(r) SRP_SECOND_COUNT(r)
+
+/*
+ * Drain: until the air is empty, packet 0 is delivered, or lost where srp_deliver would give 7: memory
+ * is left as by these single calls. Refused: 1 (memory). Answer 0; two counts: the packets delivered
+ * and the packets lost. With p packets in the air before, the two together are at most
+ * p + p n (n - 1) + p n + (n - 1) (n (n - 1) + p + p n), which is SRP_MAX_TURNS for 16 stations and
+ * 128 packets, and less for all others. examples/drain.c shows where a network settles.
+ */
+uint64_t srp_drain(uint8_t *memory, size_t length);
 
 /*
  * Trace: from a to the first entry of the row for t, again and again. It changes nothing.

@@ -110,7 +110,7 @@ static uint64_t next_random(uint64_t *state)
 /* ---- Calls ---------------------------------------------------------------------------------- */
 
 /* Every call on memory, by a number: the script's kinds 1 to 9, then these. */
-enum { OPEN = 10, SIZE, AIR, LINK, LABEL, ROW, RECORD, STATION, PACKET, PREVIEW, KINDS };
+enum { OPEN = 10, DRAIN, SIZE, AIR, LINK, LABEL, ROW, RECORD, STATION, PACKET, PREVIEW, KINDS };
 
 /* Open has n as a and start as b. */
 struct call {
@@ -120,7 +120,7 @@ struct call {
 
 static bool shows(int kind)
 {
-    return kind == SRP_EVENT_TRACE || kind > OPEN;
+    return kind == SRP_EVENT_TRACE || kind > DRAIN;
 }
 
 /* The bytes that a call writes to its output slice. */
@@ -150,6 +150,7 @@ static uint64_t make(struct call c, uint8_t *memory, size_t length, uint8_t *out
     case SRP_EVENT_DUPLICATE: return srp_duplicate(memory, length, c.a);
     case SRP_EVENT_TRACE: return srp_trace(memory, length, c.a, c.b);
     case OPEN: return srp_open(memory, length, c.a, c.b);
+    case DRAIN: return srp_drain(memory, length);
     case SIZE: return srp_size(memory, length);
     case AIR: return srp_air(memory, length);
     case LINK: return srp_link(memory, length, c.a, c.b);
@@ -1432,6 +1433,85 @@ static void test_air_full(void)
     free(d);
 }
 
+/* ---- Draining ------------------------------------------------------------------------------- */
+
+/* A result with two counts. */
+static uint64_t drained(uint64_t deliveries, uint64_t losses)
+{
+    return deliveries << 16 | losses << 40;
+}
+
+/* Packet 0 by single calls, until none is left: how many were delivered and lost. */
+static uint64_t drain_singly(uint8_t *memory)
+{
+    uint64_t deliveries = 0, losses = 0;
+
+    while (memory[SRP_AIR_AT] > 0) {
+        if (srp_deliver(memory, LENT, 0) == SRP_AIR_FULL) {
+            CHECK_EQ(srp_lose(memory, LENT, 0), SRP_DONE);
+            losses++;
+        } else {
+            deliveries++;
+        }
+    }
+    return drained(deliveries, losses);
+}
+
+/* Draining and the single calls give the same counts and the same bytes. */
+static void check_drain(int line, struct desk *d, uint64_t deliveries, uint64_t losses)
+{
+    uint8_t *memory = copied(d->memory, LENT);
+    uint64_t p = memory[SRP_AIR_AT], n = memory[SRP_N_AT];
+    uint64_t r = call_on(d, (struct call){DRAIN, 0, 0}, LENT, OUT);
+
+    check_eq(line, "drained", r, drained(deliveries, losses));
+    check_eq(line, "the refusal", SRP_REFUSED(r), false);
+    check_eq(line, "the answer", SRP_SHORT_ANSWER(r), SRP_DONE);
+    check_eq(line, "deliveries", SRP_DELIVERIES(r), deliveries);
+    check_eq(line, "losses", SRP_LOSSES(r), losses);
+    check_eq(line, "within the bound", deliveries + losses <= p + p * n * (n - 1) + p * n + (n - 1) * (n * (n - 1) + p + p * n), true);
+    check_eq(line, "single calls", drain_singly(memory), r);
+    check_same(line, "memory", d->memory, memory, LENT);
+    check_eq(line, "the air", srp_air(d->memory, LENT), SRP_DONE);
+    check_left(line, d);
+    /* Nothing is left to do. */
+    check_eq(line, "drained again", call_on(d, (struct call){DRAIN, 0, 0}, LENT, OUT), SRP_DONE);
+    check_same(line, "memory drained again", d->memory, d->before, LENT);
+    free(memory);
+}
+
+/* 01's example from its request on, alone and in a full air of its copies: of 128 the first is lost, since 1 would send two on. */
+static void test_drain(void)
+{
+    struct desk *d = opened(2, 1);
+
+    check_drain(__LINE__, d, 0, 0);
+    free(d);
+    d = example_after(3);
+    check_drain(__LINE__, d, 5, 0);
+    CHECK_EQ(srp_trace(d->memory, LENT, 2, 0), result(SRP_TRACE_ARRIVED, 2));
+    free(d);
+    d = example_after(3);
+    fill_air(d, SRP_MAX_PACKETS);
+    check_drain(__LINE__, d, 131, 1);
+    CHECK_EQ(srp_trace(d->memory, LENT, 2, 0), result(SRP_TRACE_ARRIVED, 2));
+    free(d);
+}
+
+/* Sixteen stations, each linked to all others, of which eight seek at once: 120 packets in the air, and most requests are lost. */
+static void test_drain_flood(void)
+{
+    struct desk *d = opened(16, 1);
+
+    for (size_t a = 0; a < 16; a++)
+        for (size_t b = a + 1; b < 16; b++)
+            CHECK_EQ(call_on(d, (struct call){SRP_EVENT_UP, a, b}, LENT, OUT), SRP_DONE);
+    for (size_t a = 0; a < 8; a++)
+        CHECK_EQ(call_on(d, (struct call){SRP_EVENT_SOLICIT, a, 15 - a}, LENT, OUT), result(SRP_DONE, 15));
+    check_drain(__LINE__, d, 849, 614);
+    free(d);
+}
+
 /* A count of 129 has no meaning, also where a packet stands in the bytes right after the layout. */
 static void test_air_over_full(void)
 {
@@ -1700,6 +1780,7 @@ static const struct call trials[] = {
     {SRP_EVENT_DUPLICATE, 0, 0}, {SRP_EVENT_DUPLICATE, 3, 0}, {SRP_EVENT_TRACE, 3, 0},   {SRP_EVENT_TRACE, 1, 0},   {LABEL, 3, 0},
     {ROW, 3, 0},                 {RECORD, 2, 3},              {STATION, 3, 0},           {PACKET, 4, 0},            {LINK, 2, 3},
     {PREVIEW, 0, 0},             {PREVIEW, 1, 0},             {PREVIEW, 2, 0},           {PREVIEW, 3, 0},           {PREVIEW, 4, 0},
+    {DRAIN, 0, 0},
 };
 #define TRIALS (sizeof trials / sizeof *trials)
 
@@ -1970,6 +2051,8 @@ int main(int argc, char **argv)
     test_no_station();
     test_not_as_it_stands();
     test_air_full();
+    test_drain();
+    test_drain_flood();
     test_air_over_full();
     test_air_full_for_down();
     test_numbers_used_up();

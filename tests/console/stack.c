@@ -34,6 +34,7 @@ static void call_expire(struct frame *f) { f->result = srp_expire(f->memory, SRP
 static void call_deliver(struct frame *f) { f->result = srp_deliver(f->memory, SRP_LENGTH, f->k); }
 static void call_lose(struct frame *f) { f->result = srp_lose(f->memory, SRP_LENGTH, f->k); }
 static void call_duplicate(struct frame *f) { f->result = srp_duplicate(f->memory, SRP_LENGTH, f->k); }
+static void call_drain(struct frame *f) { f->result = srp_drain(f->memory, SRP_LENGTH); }
 static void call_trace(struct frame *f) { f->result = srp_trace(f->memory, SRP_LENGTH, f->a, f->b); }
 static void call_size(struct frame *f) { f->result = srp_size(f->memory, SRP_LENGTH); }
 static void call_air(struct frame *f) { f->result = srp_air(f->memory, SRP_LENGTH); }
@@ -117,6 +118,7 @@ static struct {
 };
 
 static size_t most_deliver;
+static size_t most_drain;
 static size_t most_preview;
 static size_t most_trace;
 
@@ -136,9 +138,17 @@ static void measure(struct frame *f, size_t i)
     if (bytes > calls[i].most) calls[i].most = bytes;
 }
 
-/* Previews and delivers the first packet until the air is empty, so that requests, replies and errors are measured. */
+/*
+ * Previews and delivers the first packet until the air is empty, so that requests, replies and errors are measured; and drains a copy of the
+ * network at once.
+ */
 static void deliver_all(struct frame *f)
 {
+    static struct frame copy;
+    copy = *f;
+    size_t drained = needed_by(&copy, call_drain);
+    must(!SRP_REFUSED(copy.result) && SRP_DELIVERIES(copy.result) > 0, "srp_drain");
+    if (drained > most_drain) most_drain = drained;
     f->k = 0;
     while (SRP_COUNT(srp_air(f->memory, SRP_LENGTH)) > 0) {
         size_t bytes = needed_by(f, call_preview);
@@ -187,6 +197,7 @@ int main(void)
     printf("bytes of stack:\n");
     report("srp_open", opened);
     report("srp_deliver", most_deliver);
+    report("srp_drain", most_drain);
     report("srp_preview", most_preview);
     report("srp_trace", most_trace);
     for (size_t i = 0; i < sizeof calls / sizeof calls[0]; i++) report(calls[i].name, calls[i].most);

@@ -18,28 +18,21 @@ use Rattle.model.proofs.Answers.{accepted-tells}
 use Rattle.draining.specs.Draining.{Turn, delivery, loss, losesPacket, TurnLeaves, deliveriesIn, lossesIn, turnLimit}
 use Rattle.draining.proofs.Turning.{delivery-more, loss-more, turns-count, kept-accepted, not-lost}
 use Rattle.draining.proofs.Ending.{lose-first, delivers-or-loses, Draining, draining-none, most-turns, turn-left, draining-more, draining-ends}
+use Rattle.draining.specs.declared.Event as draining
+use Rattle.draining.specs.Following.{Follows}
 use Rattle.network.specs.declared.Memory.{Memory}
 use Rattle.network.specs.View.{airOf, view}
 use Rattle.network.proofs.PacketLaws.{air-length}
 use Rattle.steps.specs.declared.Done.{Done}
 use Rattle.steps.specs.declared.Happened.{Happened}
-use Rattle.steps.specs.declared.source.Event as source
 use Rattle.steps.specs.Called.{done, effectOf, Called}
 use Rattle.steps.specs.Happens.{Happens}
 use Rattle.steps.specs.Lines.{packed, Fits}
 use Rattle.steps.specs.Ran.{RanDry}
-use Rattle.steps.specs.Source.{Listed, Follows, Next}
-
--- What follows on an answer.
-module _ {answer : ℕ} where
-  pub follows-loss : losesPacket answer ≡ true → Follows answer (record { kind = 7; a = 0; b = 0; losses = 1 })
-  follows-loss e = record { kind = rw e; first = refl; second = refl; losses = rw e }
-
-  pub follows-delivery : losesPacket answer ≡ false → Follows answer (record { kind = 6; a = 0; b = 0; losses = 0 })
-  follows-delivery e = record { kind = rw e; first = refl; second = refl; losses = rw e }
+use Rattle.steps.specs.Source.{Listed, Next}
 
 -- The next event, by where it comes from.
-module _ {drains : Bool} (kinds operands : List ℕ) (i last : ℕ) (e : source.Event) where
+module _ {drains : Bool} (kinds operands : List ℕ) (i last : ℕ) (e : draining.Event) where
   pub next-turn : drains ≡ true → ((answer sent air hops : ℕ) → Fits answer sent air hops → last ≡ packed answer sent air hops → Follows answer e) → Next drains kinds operands i last e
   next-turn d f = subst (λ b. Next b kinds operands i last e) (sym d) f
 
@@ -105,10 +98,10 @@ module _ {memory : Memory} {lines′ : List ℕ} {now : Memory} {lost i : ℕ} (
       go false a = omega (arith, a, turns-count (s .turns))
 
   -- What follows on the line told last.
-  follows : {e : source.Event} → Next true [] [] i (getD lines′ 0 0) e → Follows (s .answer) e
+  follows : {e : draining.Event} → Next true [] [] i (getD lines′ 0 0) e → Follows (s .answer) e
   follows k = k (s .answer) (s .sent) (s .air) (s .hops) (s .fits) (ap (λ (l : List ℕ). getD l 0 0) (s .line))
 
-  pub dry-lost : {e : source.Event} → Next true [] [] i (getD lines′ 0 0) e → e .losses ≤ 1
+  pub dry-lost : {e : draining.Event} → Next true [] [] i (getD lines′ 0 0) e → e .losses ≤ 1
   dry-lost {e} k = go (losesPacket (s .answer)) (follows k .losses)
     where
       go : (b : Bool) → e .losses ≡ (if b then 1 else 0) → e .losses ≤ 1
@@ -192,7 +185,7 @@ module _ {memory : Memory} {lines′ : List ℕ} {now : Memory} {lost i : ℕ} (
               awaits = rw (kept-accepted (r .answer) (ap (λ (y : Effect). isRefusal (y .answer)) (c .0) ∙ accepts)) (omega (arith, made, counts));
             }
 
-    pub dry-more : (e : source.Event) → Next true [] [] i (getD lines′ 0 0) e → Happens now (eventOf (e .kind) (e .a) (e .b)) r → After (lost + e .losses)
+    pub dry-more : (e : draining.Event) → Next true [] [] i (getD lines′ 0 0) e → Happens now (eventOf (e .kind) (e .a) (e .b)) r → After (lost + e .losses)
     unfolding Happens eventOf notEvent usesOne callOf
     dry-more e k so = go (losesPacket (s .answer)) refl (follows s k)
       where

@@ -19,6 +19,7 @@ use Rattle.model.specs.Events.{eventOf, eventAt, callsIn, eventLimit, afterEven
 use Rattle.model.specs.Printout.{Line, line, lineAt}
 use Rattle.model.proofs.Range.{Sized, Invariant, in-range-invariant}
 use Rattle.model.proofs.EventLaws.{after-more}
+use Rattle.draining.specs.declared.Event.{Event}
 use Rattle.draining.specs.Draining.{turnLimit}
 use Rattle.draining.proofs.Ending.{most-turns}
 use Rattle.rows.specs.View.{rowOf}
@@ -32,7 +33,6 @@ use Rattle.steps.specs.declared.Happened.{Happened}
 use Rattle.steps.specs.Happens.{happened, Happens}
 use Rattle.steps.specs.Lines.{packed, Fits}
 use Rattle.steps.specs.Ran.{Ran, told, ToldFit, RunEnds}
-use Rattle.steps.specs.declared.source.Event.{Event}
 use Rattle.steps.specs.Source.{Listed, Next}
 use Rattle.steps.proofs.HappenLaws.{happens-after, happens-in-range, happens-line}
 use Rattle.steps.proofs.DrainLaws.{DrySoFar, dry-none, dry-below, dry-lost, dry-more, dry-ends}

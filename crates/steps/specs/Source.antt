@@ -4,9 +4,8 @@ use mathlib.Core.Path.{_≡_}
 use mathlib.Core.Bool.{Bool, true, false}
 use mathlib.Core.List.{List}
 use lib.ListN.{getD}
-use Rattle.base.specs.Choice.{if_then_else_}
-use Rattle.draining.specs.Draining.{losesPacket}
-use Rattle.steps.specs.declared.source.Event.{Event}
+use Rattle.draining.specs.declared.Event.{Event}
+use Rattle.draining.specs.Following.{Follows}
 use Rattle.steps.specs.Lines.{packed, Fits}
 
 -- Event i of a list.
@@ -15,13 +14,6 @@ pub record Listed (kinds operands : List ℕ) (i : ℕ) (r : Event) : Type 0 whe
   pub first : r .a ≡ getD operands (2 * i) 0
   pub second : r .b ≡ getD operands (2 * i + 1) 0
   pub losses : r .losses ≡ 0
-
--- What follows on an answer where the air is drained: Lose 0, or Deliver 0.
-pub record Follows (answer : ℕ) (r : Event) : Type 0 where
-  pub kind : r .kind ≡ (if losesPacket answer then 7 else 6)
-  pub first : r .a ≡ 0
-  pub second : r .b ≡ 0
-  pub losses : r .losses ≡ (if losesPacket answer then 1 else 0)
 
 -- The next event, after a line that packs these numbers.
 abbrev pub Next : (drains : Bool) (kinds operands : List ℕ) (i last : ℕ) → Event → Type 0

@@ -5,17 +5,11 @@ ghost use Prim.Native.Nat.{_+_, _*_, _<_};
 ghost use lib.ListN.{length};
 ghost use lib.Dec.{ltb};
 ghost use Rattle.base.specs.Choice.{if_then_else_};
-ghost use Rattle.steps.specs.Source.{Listed, Follows, Next};
+ghost use Rattle.steps.specs.Source.{Listed, Next};
 use crate::lines::answer_of;
-use draining::loses;
-
-// An event: its kind and its operands; and how many packets are lost by it because Deliver was turned down.
-pub struct Event {
-    pub kind: u8,
-    pub a: u8,
-    pub b: u8,
-    pub losses: u32,
-}
+use draining::Event;
+use draining::packet_left;
+use draining::turn_after;
 
 // Event i of a list.
 fn event_at(kinds: &[u8], operands: &[u8], i: usize) -> Event
@@ -29,26 +23,6 @@ fn event_at(kinds: &[u8], operands: &[u8], i: usize) -> Event
         kind: kind,
         a: a,
         b: b,
-        losses: 0,
-    }
-}
-
-// After this answer, where the air is drained: packet 0 is lost, or delivered.
-fn turn_after(answer: u32) -> Event
-    ensures { λ r. ⌜ Follows answer r ⌝ }
-{
-    if loses(answer) {
-        return Event {
-            kind: 7,
-            a: 0,
-            b: 0,
-            losses: 1,
-        };
-    }
-    Event {
-        kind: 6,
-        a: 0,
-        b: 0,
         losses: 0,
     }
 }
@@ -68,7 +42,11 @@ pub fn next_event(drains: bool, kinds: &[u8], operands: &[u8], i: usize, last: u
 pub fn goes_on(drains: bool, i: usize, events: usize, count: u8) -> bool
     ensures { λ r. ⌜ r ≡ (if drains then ltb 0 count else ltb i events) ⌝ }
 {
-    if drains { 0 < count } else { i < events }
+    if drains {
+        packet_left(count)
+    } else {
+        i < events
+    }
 }
 
 // Where the line of event i is told. A run that drains the air keeps the last line alone.

@@ -5,9 +5,11 @@
 //! have the medians of the rounds and of their ratios, and between which the middle half of the ratios lies.
 
 use differential::calls::{answer_of, by_library, by_reference, call_of, Call, OUT};
+use differential::networks::{fill_air, some_network};
 use differential::program::root;
 use differential::random::Random;
 use differential::scripts::{styled, Script, STYLES};
+use reference::calls::Drained;
 use reference::label::{Label, UNASSIGNED};
 use reference::network::{Bytes, Network, Row, Successor, LENGTH, MAX_STATIONS, MAX_SUCCESSORS};
 use reference::script::{DELIVER, MAX_EVENTS};
@@ -193,6 +195,50 @@ fn before_delivery(scripts: &[(String, Script)], answer: u32) -> (Vec<u8>, usize
     }
 }
 
+/// Sixteen stations, each linked to all others, of which eight seek at once.
+fn flood() -> Box<Network> {
+    let mut network = Network::fresh(MAX_STATIONS, 1);
+    for b in 1..MAX_STATIONS {
+        (0..b).for_each(|a| assert!(network.up(a, b).is_ok()));
+    }
+    (0..8).for_each(|a| assert!(network.solicit(a, 15 - a).is_ok()));
+    network
+}
+
+/// Of so many random networks, those of 16 stations with a full air: the one in which most packets are delivered and lost.
+fn longest_drain() -> Box<Network> {
+    const NETWORKS: u64 = 20_000;
+    let full = |seed: u64| {
+        let mut random = Random::new(seed);
+        let mut network = some_network(&mut random);
+        fill_air(&mut random, &mut network);
+        network
+    };
+    let turns = |network: &Network| {
+        let Drained { deliveries, losses } = network.to_owned().drain();
+        deliveries + losses
+    };
+    (0..NETWORKS).map(full).filter(|network| network.stations() == MAX_STATIONS).max_by_key(|network| turns(network)).unwrap()
+}
+
+/// Drain at the console, for each packet delivered or lost: the range test, and what is read and written, come once.
+fn bench_drains(scripts: &[(String, Script)]) {
+    heading("Nanoseconds for each packet delivered or lost by Drain, in networks of 16 stations.");
+    let (late, _) = before_answer(scripts, DELIVER, 103);
+    let networks = [
+        ("a full air, the longest of 20,000 random networks", *longest_drain()),
+        ("all stations linked, eight seek", *flood()),
+        ("30 packets or more of a script", *Network::of(&late).unwrap()),
+    ];
+    for (what, network) in networks {
+        let Drained { deliveries, losses } = network.to_owned().drain();
+        let turns = f64::from(deliveries + losses);
+        let what = format!("{what}: {} in the air, {deliveries} delivered, {losses} lost", { network.in_air });
+        let each = |make| calls_on(make, network.bytes(), Call::Drain) / turns;
+        Times::of(|| (each(by_library), each(by_reference))).print(&what);
+    }
+}
+
 /// So many packets at least are in the air where a call is timed by its answer.
 const SOME_PACKETS: u8 = 30;
 
@@ -347,6 +393,7 @@ fn main() {
     bench_parts(&scripts);
     bench_calls(&scripts);
     bench_previews(&scripts);
+    bench_drains(&scripts);
     bench_rows();
     bench_labels();
     bench_script_bytes(&scripts[0].1);

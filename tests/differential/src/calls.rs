@@ -1,6 +1,6 @@
 //! Calls on memory, each made on both builds, and what differs.
 
-use reference::calls::Answer;
+use reference::calls::{Answer, Drained};
 use reference::label::Label;
 use reference::network::{Network, Packet, Preview, Record, Row, ERROR, LENGTH};
 use reference::printout::put_event;
@@ -19,6 +19,7 @@ pub enum Call {
     Deliver(usize),
     Lose(usize),
     Duplicate(usize),
+    Drain,
     Trace(usize, usize),
     Size,
     Air,
@@ -46,6 +47,7 @@ macro_rules! made_by {
                 Call::Deliver(k) => build::deliver(memory, k),
                 Call::Lose(k) => build::lose(memory, k),
                 Call::Duplicate(k) => build::duplicate(memory, k),
+                Call::Drain => build::drain(memory),
                 Call::Trace(a, t) => build::trace(memory, a, t),
                 Call::Size => build::size(memory),
                 Call::Air => build::air(memory),
@@ -86,6 +88,19 @@ pub fn answer_of(result: u64) -> u32 {
 
 pub fn count_of(result: u64) -> u32 {
     (result >> 32) as u32
+}
+
+/// What draining tells: its answer, and the two counts.
+pub fn drained_of(result: u64) -> (u32, Drained) {
+    ((result & 0xffff) as u32, Drained { deliveries: (result >> 16 & 0xff_ffff) as u32, losses: (result >> 40) as u32 })
+}
+
+/// The answer in the result of a call.
+pub fn answer_to(call: Call, result: u64) -> u32 {
+    match call {
+        Call::Drain => drained_of(result).0,
+        _ => answer_of(result),
+    }
 }
 
 fn is_refused(result: u64) -> bool {
@@ -148,10 +163,32 @@ impl Desk {
         let result = by_library(call, &mut self.library, &mut self.library_out[..out_length]);
         let wanted = by_reference(call, &mut self.reference, &mut self.reference_out[..out_length]);
         if result != wanted {
-            return Err(format!("{call:?}: the library gives {}, the Rust build {}", shown(result), shown(wanted)));
+            return Err(format!("{call:?}: the library gives {}, the Rust build {}", shown(call, result), shown(call, wanted)));
         }
-        self.compare(result).map_err(|what| format!("{call:?}, result {}: {what}", shown(result)))?;
+        self.compare(result).map_err(|what| format!("{call:?}, result {}: {what}", shown(call, result)))?;
         Ok(result)
+    }
+
+    /// Draining memory in range, on both builds: the air is empty after it, and the counts are within 02's bound. Where `singly` the
+    /// library's own single calls repeat it on a copy: the same counts, and the same bytes.
+    pub fn drain(&mut self, singly: bool) -> Result<Drained, String> {
+        let most = turn_limit(self.network().stations(), usize::from(self.network().in_air));
+        self.copy.copy_from_slice(&self.library);
+        let (answer, drained) = drained_of(self.call(Call::Drain, 0)?);
+        let Drained { deliveries, losses } = drained;
+        if answer != 0 || self.network().in_air != 0 || (deliveries + losses) as usize > most {
+            return Err(format!("Drain: answer {answer}, {drained:?} of at most {most}, {} packets left", self.network().in_air));
+        }
+        if singly && deliveries + losses > 0 {
+            let repeated = drain_singly(&mut self.copy);
+            if repeated != drained {
+                return Err(format!("Drain: {drained:?}, and single calls make {repeated:?}"));
+            }
+            if self.copy != self.library {
+                return Err(format!("Drain, and after it the single calls: {}", difference(&self.library, &self.copy)));
+            }
+        }
+        Ok(drained)
     }
 
     /// An event of a script, by the library's entry point and in place by the Rust build, which has no range test here.
@@ -173,6 +210,7 @@ impl Desk {
     /// what the copy then has, and the memory is as it was.
     pub fn preview(&mut self, k: usize, out_length: usize) -> Result<u64, String> {
         let result = self.call(Call::Preview(k), out_length)?;
+        let shown = |result| shown(Call::Preview(k), result);
         let fails = |what: String| Err(format!("Preview({k}) into {out_length} bytes, result {}: {what}", shown(result)));
         if self.library != self.before {
             return fails("the library wrote to the memory".into());
@@ -229,8 +267,31 @@ impl Desk {
     }
 }
 
-fn shown(result: u64) -> String {
-    format!("answer {} and count {}", answer_of(result), count_of(result))
+fn shown(call: Call, result: u64) -> String {
+    match call {
+        Call::Drain => format!("{:?}", drained_of(result)),
+        _ => format!("answer {} and count {}", answer_of(result), count_of(result)),
+    }
+}
+
+/// 02: "at most p + p·n·(n − 1) + p·n + (n − 1)·(n·(n − 1) + p + p·n)".
+fn turn_limit(n: usize, p: usize) -> usize {
+    p + p * n * (n - 1) + p * n + (n - 1) * (n * (n - 1) + p + p * n)
+}
+
+/// Packet 0 by the library's Deliver, and by its Lose where that gives 7, until it gives 6.
+fn drain_singly(memory: &mut [u8]) -> Drained {
+    let mut drained = Drained::default();
+    loop {
+        match answer_of(library::deliver(memory, 0)) {
+            6 => return drained,
+            7 => {
+                library::lose(memory, 0);
+                drained.losses += 1;
+            }
+            _ => drained.deliveries += 1,
+        }
+    }
 }
 
 /// A result read as an event's answer.

@@ -1,6 +1,6 @@
 //! Damaged memory: a byte changed here and there, or one clause of the range test broken.
 
-use crate::calls::{answer_of, place, Call, Desk, OUT};
+use crate::calls::{answer_to, place, Call, Desk, OUT};
 use crate::networks::{some_call, some_network};
 use crate::random::Random;
 use crate::scripts::{script_of, Script};
@@ -138,10 +138,11 @@ pub fn check_clauses(case: usize, examples: &[Script]) -> Result<Tally, String> 
         break_clause(&mut random, &mut broken, clause);
         let call = some_call(&mut random, network.stations(), usize::from(network.in_air));
         let result = Desk::new(broken.bytes()).call(call, OUT).map_err(|what| format!("clause {clause} is broken: {what}"))?;
-        if answer_of(result) != 1 && !matches!(call, Call::Open(..)) {
-            return Err(format!("clause {clause} is broken, and {call:?} is answered {}", answer_of(result)));
+        let answer = answer_to(call, result);
+        if answer != 1 && !matches!(call, Call::Open(..)) {
+            return Err(format!("clause {clause} is broken, and {call:?} is answered {answer}"));
         }
-        tally.count_call(call, answer_of(result));
+        tally.count_call(call, answer);
     }
     Ok(tally)
 }
@@ -168,7 +169,7 @@ pub fn check_bytes(case: usize, examples: &[Script]) -> Result<Tally, String> {
         for _ in 0..2 {
             let call = some_call(&mut random, network.stations(), usize::from(network.in_air));
             let result = desk.call(call, OUT).map_err(|what| format!("trial {trial}, where {}: {what}", changes.join(", ")))?;
-            tally.count_call(call, answer_of(result));
+            tally.count_call(call, answer_to(call, result));
         }
     }
     Ok(tally)

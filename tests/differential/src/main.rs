@@ -27,6 +27,8 @@ struct Family {
     /// The answers that these tests have to meet, and those that their previews have to.
     meets: &'static [u32],
     previews: &'static [u32],
+    /// Whether they have to deliver and to lose packets by draining.
+    drains: bool,
 }
 
 /// The scripts that the examples are.
@@ -51,6 +53,7 @@ fn families() -> Vec<Family> {
             check: Box::new(|case| if case == 0 { labels::check_cases() } else { labels::check_random(case, TRIPLES) }),
             meets: &[0, 1, 112, 113, 114],
             previews: &[],
+            drains: false,
         },
         Family {
             name: "rows",
@@ -58,6 +61,7 @@ fn families() -> Vec<Family> {
             check: Box::new(|case| if case == 0 { rows::check_all() } else { rows::check_sizes() }),
             meets: &[0, 1, 2],
             previews: &[],
+            drains: false,
         },
         Family {
             name: "script-bytes",
@@ -71,6 +75,7 @@ fn families() -> Vec<Family> {
             }),
             meets: &[0, 1, 9, 10, 11, 12],
             previews: &[],
+            drains: false,
         },
         Family {
             name: "networks",
@@ -78,14 +83,24 @@ fn families() -> Vec<Family> {
             check: Box::new(networks::check_network),
             meets: &[0, 1, 2, 3, 4, 5, 6, 7, 8, 12, 101, 102, 103, 104, 111, 112, 113, 114, 115, 121, 122, 123, 131, 132, 133],
             previews: &[6, 7, 12, 101, 102, 103, 104, 111, 112, 113, 114, 115, 121, 122, 123],
+            drains: false,
         },
-        Family { name: "memory-lengths", cases: 300, check: Box::new(networks::check_lengths), meets: &[0, 1], previews: &[1, 6] },
+        Family { name: "drains", cases: 12_000, check: Box::new(networks::check_drain), meets: &[0, 4, 7, 8], previews: &[], drains: true },
+        Family {
+            name: "memory-lengths",
+            cases: 300,
+            check: Box::new(networks::check_lengths),
+            meets: &[0, 1],
+            previews: &[1, 6],
+            drains: false,
+        },
         Family {
             name: "broken-clauses",
             cases: 2_000,
             check: Box::new(move |case| damage::check_clauses(case, &for_clauses)),
             meets: &[1],
             previews: &[1],
+            drains: false,
         },
         Family {
             name: "damaged-memory",
@@ -93,6 +108,7 @@ fn families() -> Vec<Family> {
             check: Box::new(move |case| damage::check_bytes(case, &for_memory)),
             meets: &[0, 1, 2, 6],
             previews: &[1, 6, 101, 102, 103, 111, 112, 113, 115, 121, 122, 123],
+            drains: false,
         },
         Family {
             name: "damaged-scripts",
@@ -100,6 +116,7 @@ fn families() -> Vec<Family> {
             check: Box::new(move |case| script_bytes::check_damaged(case, &for_damage)),
             meets: &[0, 1, 9, 10, 11],
             previews: &[],
+            drains: false,
         },
         Family {
             name: "scripts",
@@ -107,6 +124,7 @@ fn families() -> Vec<Family> {
             check: Box::new(move |case| scripts::check(&scripts::script_of(case, &scripts), &mut Random::new(!case as u64))),
             meets: &[0, 2, 3, 4, 5, 6, 7, 101, 102, 103, 104, 111, 112, 114, 115, 121, 122, 123, 131, 132],
             previews: &[6, 7, 12, 101, 102, 103, 104, 111, 112, 114, 115, 121, 122, 123],
+            drains: true,
         },
     ]
 }
@@ -201,6 +219,13 @@ fn check_all() -> ExitCode {
     print_met("preview", &previewed);
     let mut code = ExitCode::SUCCESS;
     for (family, tally) in &tallies {
+        if family.drains {
+            println!("differential: {} drained {} packets by delivery and {} by loss", family.name, tally.deliveries, tally.losses);
+        }
+        if family.drains && (tally.deliveries == 0 || tally.losses == 0) {
+            println!("differential: {} drained no packet by one of the two", family.name);
+            code = ExitCode::FAILURE;
+        }
         for answer in missed(family.meets, &tally.met) {
             println!("differential: {} never met answer {answer}", family.name);
             code = ExitCode::FAILURE;

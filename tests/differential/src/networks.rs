@@ -1,6 +1,6 @@
 //! Memory that no list of calls makes: random networks in range, and slices of other lengths.
 
-use crate::calls::{answer_of, Call, Desk, OUT, PREVIEW};
+use crate::calls::{answer_of, answer_to, Call, Desk, OUT, PREVIEW};
 use crate::random::Random;
 use crate::tally::Tally;
 use reference::label::{Label, UNASSIGNED};
@@ -136,15 +136,27 @@ pub fn some_network(random: &mut Random) -> Box<Network> {
             };
         }
     }
-    network.in_air = match random.below(3) {
+    let in_air = match random.below(3) {
         0 => random.below(10),
         1 => random.below(MAX_PACKETS + 1),
         _ => random.between(MAX_PACKETS - 3, MAX_PACKETS),
-    } as u8;
-    for k in 0..usize::from(network.in_air) {
-        network.packets[k] = some_packet(random, &palette, &network);
-    }
+    };
+    put_packets(random, &palette, &mut network, in_air);
     network
+}
+
+/// So many packets in the air, each in range.
+fn put_packets(random: &mut Random, palette: &Palette, network: &mut Network, in_air: usize) {
+    network.in_air = in_air as u8;
+    for k in 0..in_air {
+        network.packets[k] = some_packet(random, palette, network);
+    }
+}
+
+/// An air that is full.
+pub fn fill_air(random: &mut Random, network: &mut Network) {
+    let palette = Palette::new(random);
+    put_packets(random, &palette, network, MAX_PACKETS);
 }
 
 /// A station that there mostly is, or a number that is none.
@@ -165,7 +177,7 @@ fn some_place(random: &mut Random, in_air: usize) -> usize {
 
 /// A call that mostly names stations and packets that there are.
 pub fn some_call(random: &mut Random, n: usize, in_air: usize) -> Call {
-    const WEIGHTS: [usize; 19] = [1, 6, 8, 10, 4, 3, 60, 3, 8, 10, 1, 1, 2, 2, 2, 2, 2, 2, 12];
+    const WEIGHTS: [usize; 20] = [1, 6, 8, 10, 4, 3, 60, 3, 8, 10, 1, 1, 2, 2, 2, 2, 2, 2, 12, 1];
     let (a, b) = (some_station(random, n), some_station(random, n));
     let k = some_place(random, in_air);
     match random.weighted(&WEIGHTS) {
@@ -187,7 +199,8 @@ pub fn some_call(random: &mut Random, n: usize, in_air: usize) -> Call {
         15 => Call::Record(a, b),
         16 => Call::Station(a),
         17 => Call::Packet(k),
-        _ => Call::Preview(k),
+        18 => Call::Preview(k),
+        _ => Call::Drain,
     }
 }
 
@@ -197,6 +210,27 @@ fn some_out_length(random: &mut Random, call: Call) -> usize {
         Call::Preview(_) => random.of(&[0, 69, PREVIEW - 1, PREVIEW, PREVIEW, PREVIEW + 1, PREVIEW + 1, OUT]),
         _ => random.of(&[0, 5, 6, 15, 16, 22, 23, 27, 28, 68, 69, OUT]),
     }
+}
+
+/// Draining a random network, whose air is mostly full, and again with what it left and some packets more. One of eight is repeated by single
+/// calls.
+pub fn check_drain(case: usize) -> Result<Tally, String> {
+    let mut random = Random::new(case as u64);
+    let mut tally = Tally::default();
+    let mut network = some_network(&mut random);
+    if random.percent(70) {
+        fill_air(&mut random, &mut network);
+    }
+    let mut bytes = network.bytes().to_vec();
+    bytes.extend([0xc3; 5]);
+    let mut desk = Desk::new(&bytes);
+    tally.count_drain(desk.drain(random.percent(12))?);
+    for a in 0..desk.network().stations() {
+        let t = (a + 1) % desk.network().stations();
+        tally.count_call(Call::Solicit(a, t), answer_of(desk.call(Call::Solicit(a, t), 0)?));
+    }
+    tally.count_drain(desk.drain(random.percent(12))?);
+    Ok(tally)
 }
 
 /// Calls one after the other on a random network.
@@ -217,10 +251,10 @@ pub fn check_network(case: usize) -> Result<Tally, String> {
             _ => desk.call(call, out_length),
         };
         let result = result.map_err(|what| format!("call {step}: {what}"))?;
-        if answer_of(result) == 1 && !matches!(call, Call::Open(..)) {
+        if answer_to(call, result) == 1 && !matches!(call, Call::Open(..)) {
             return Err(format!("call {step}: {call:?}: a network in range is taken for one out of range"));
         }
-        tally.count_call(call, answer_of(result));
+        tally.count_call(call, answer_to(call, result));
     }
     Ok(tally)
 }
@@ -236,13 +270,16 @@ pub fn check_lengths(case: usize) -> Result<Tally, String> {
         let whole = length.min(LENGTH);
         bytes[..whole].copy_from_slice(&network.bytes()[..whole]);
         let mut desk = Desk::new(&bytes);
-        for call in std::iter::repeat_with(|| some_call(&mut random, network.stations(), 1)).take(10).chain([Call::Open(9, 1), Call::Size])
-        {
+        for call in std::iter::repeat_with(|| some_call(&mut random, network.stations(), 1)).take(10).chain([
+            Call::Drain,
+            Call::Open(9, 1),
+            Call::Size,
+        ]) {
             let result = desk.call(call, OUT).map_err(|what| format!("a slice of {length} bytes: {what}"))?;
-            if length < LENGTH && answer_of(result) != 1 {
+            if length < LENGTH && answer_to(call, result) != 1 {
                 return Err(format!("{call:?} takes a slice of {length} bytes"));
             }
-            tally.count_call(call, answer_of(result));
+            tally.count_call(call, answer_to(call, result));
         }
         if desk.memory()[whole..] != bytes[whole..] {
             return Err(format!("bytes past the layout changed, of a slice of {length}"));

@@ -263,7 +263,7 @@ fn check_some_preview(tally: &mut Tally, desk: &mut Desk, random: &mut Random) -
     Ok(())
 }
 
-/// A script on both builds, event by event and as a whole by the rehearsal programs.
+/// A script on both builds, event by event and as a whole by the rehearsal programs; after its last event the air is drained.
 pub fn check(script: &Script, random: &mut Random) -> Result<Tally, String> {
     let mut tally = Tally::default();
     // Whatever stood in the memory before, and bytes past the layout.
@@ -284,7 +284,10 @@ pub fn check(script: &Script, random: &mut Random) -> Result<Tally, String> {
             check_routes(desk.network()).map_err(fails)?;
         }
     }
-    check_routes(desk.network()).map_err(|what| failure(script, script.kinds.len(), what))?;
+    let fails = |what| failure(script, script.kinds.len(), what);
+    check_routes(desk.network()).map_err(fails)?;
+    tally.count_drain(desk.drain(random.percent(20)).map_err(fails)?);
+    check_routes(desk.network()).map_err(fails)?;
     check_program(&script.bytes())?;
     Ok(tally)
 }

@@ -1,6 +1,7 @@
 //! How often each answer was met.
 
 use crate::calls::Call;
+use reference::calls::Drained;
 
 /// Answers are 0, 1 to 12 and 101 to 133.
 pub const ANSWERS: usize = 134;
@@ -10,11 +11,14 @@ pub struct Tally {
     pub met: [u64; ANSWERS],
     /// By previews, which `met` leaves out.
     pub previewed: [u64; ANSWERS],
+    /// By draining, all together.
+    pub deliveries: u64,
+    pub losses: u64,
 }
 
 impl Default for Tally {
     fn default() -> Tally {
-        Tally { calls: 0, met: [0; ANSWERS], previewed: [0; ANSWERS] }
+        Tally { calls: 0, met: [0; ANSWERS], previewed: [0; ANSWERS], deliveries: 0, losses: 0 }
     }
 }
 
@@ -29,6 +33,13 @@ impl Tally {
         self.previewed[answer as usize] += 1;
     }
 
+    /// Draining that was accepted.
+    pub fn count_drain(&mut self, drained: Drained) {
+        self.count(0);
+        self.deliveries += u64::from(drained.deliveries);
+        self.losses += u64::from(drained.losses);
+    }
+
     /// A call on memory, which may be a preview.
     pub fn count_call(&mut self, call: Call, answer: u32) {
         if matches!(call, Call::Preview(_)) {
@@ -40,6 +51,8 @@ impl Tally {
 
     pub fn add(&mut self, other: &Tally) {
         self.calls += other.calls;
+        self.deliveries += other.deliveries;
+        self.losses += other.losses;
         for (all, more) in [(&mut self.met, other.met), (&mut self.previewed, other.previewed)] {
             all.iter_mut().zip(more).for_each(|(all, more)| *all += more);
         }

@@ -27,6 +27,7 @@ entry_points! { &mut [u8], as_mut_ptr, *mut u8:
     srp_deliver = deliver(k: usize);
     srp_lose = lose(k: usize);
     srp_duplicate = duplicate(k: usize);
+    srp_drain = drain();
 }
 
 entry_points! { &[u8], as_ptr, *const u8:

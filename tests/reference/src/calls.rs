@@ -12,6 +12,13 @@ pub struct Done {
     pub hops: u32,
 }
 
+/// What draining tells.
+#[derive(Clone, Copy, PartialEq, Eq, Default, Debug)]
+pub struct Drained {
+    pub deliveries: u32,
+    pub losses: u32,
+}
+
 /// An accepted call, or the number that turned it down.
 pub type Answer = Result<Done, u32>;
 
@@ -111,6 +118,21 @@ impl Network {
         self.test_packet(k)?;
         self.remove_packet(k);
         done(0, 0)
+    }
+
+    /// 02, F-3: "delivers packet 0 again and again, and loses it where Deliver gives 7, until the air is empty. It returns deliveries and
+    /// losses."
+    pub fn drain(&mut self) -> Drained {
+        let mut drained = Drained::default();
+        while self.in_air > 0 {
+            if self.deliver(0) == Err(7) {
+                self.remove_packet(0);
+                drained.losses += 1;
+            } else {
+                drained.deliveries += 1;
+            }
+        }
+        drained
     }
 
     pub fn duplicate(&mut self, k: usize) -> Answer {

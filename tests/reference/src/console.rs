@@ -1,12 +1,17 @@
-//! The functions of include/srp.h on byte slices, in place. A result has the answer in its low half and a count in its high half.
+//! The functions of include/srp.h on byte slices, in place. A result has the answer in its low half and a count in its high half; that of
+//! `drain` has the answer in its lowest 16 bits and two counts of 24 bits above it.
 
-use crate::calls::Answer;
+use crate::calls::{Answer, Drained};
 use crate::label::{new_label as new_label_in_range, Label};
 use crate::network::{Bytes, Network, Row, MAX_STATIONS, MAX_SUCCESSORS};
 use crate::script;
 
 fn result(answer: u32, count: u32) -> u64 {
     u64::from(answer) | u64::from(count) << 32
+}
+
+fn result_of_two(answer: u32, first: u32, second: u32) -> u64 {
+    u64::from(answer) | u64::from(first) << 16 | u64::from(second) << 40
 }
 
 /// What a call tells: packets sent, or a trace's hops.
@@ -33,19 +38,16 @@ fn ranged(memory: &[u8]) -> Result<&Network, u32> {
     Network::of(memory).filter(|network| network.in_range()).ok_or(1)
 }
 
-/// A call on memory that is in range, else 1.
+/// A step on memory that is in range, else 1.
+fn made<T>(memory: &mut [u8], step: impl FnOnce(&mut Network) -> Result<T, u32>) -> Result<T, u32> {
+    let network = Network::of_mut(memory).filter(|network| network.in_range()).ok_or(1u32)?;
+    let answer = step(network)?;
+    network.settle();
+    Ok(answer)
+}
+
 fn call(memory: &mut [u8], step: impl FnOnce(&mut Network) -> Answer) -> u64 {
-    let answer = match Network::of_mut(memory) {
-        Some(network) if network.in_range() => {
-            let answer = step(network);
-            if answer.is_ok() {
-                network.settle();
-            }
-            answer
-        }
-        _ => Err(1),
-    };
-    told(answer)
+    told(made(memory, step))
 }
 
 pub fn up(memory: &mut [u8], a: usize, b: usize) -> u64 {
@@ -78,6 +80,13 @@ pub fn lose(memory: &mut [u8], k: usize) -> u64 {
 
 pub fn duplicate(memory: &mut [u8], k: usize) -> u64 {
     call(memory, |network| network.duplicate(k))
+}
+
+pub fn drain(memory: &mut [u8]) -> u64 {
+    match made(memory, |network| Ok(network.drain())) {
+        Ok(Drained { deliveries, losses }) => result_of_two(0, deliveries, losses),
+        Err(number) => result_of_two(number, 0, 0),
+    }
 }
 
 pub fn trace(memory: &[u8], a: usize, t: usize) -> u64 {

@@ -48,6 +48,7 @@ calls! {
     srp_deliver = deliver(k: usize);
     srp_lose = lose(k: usize);
     srp_duplicate = duplicate(k: usize);
+    srp_drain = drain();
 }
 
 questions! {

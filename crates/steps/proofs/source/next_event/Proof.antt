@@ -1,7 +1,7 @@
 -- `source::next_event` meets its contract: event i of the list, or what follows on the line told last.
 use mathlib.Core.Path.{subst}
 use borrow.Author.Needs.{needs}
-use Rattle.steps.specs.Source.{Follows}
+use Rattle.draining.specs.Following.{Follows}
 use Rattle.steps.proofs.DrainLaws.{next-turn, next-listed}
 use Rattle.steps.proofs.source.next_event.Statement.{statement}
 use Rattle.steps.proofs.source.next_event.Tie as tie

@@ -1,9 +1,9 @@
--- `source::turn_after` meets its contract: Lose after an answer for which packet 0 is lost, else Deliver.
+-- `turn_after` meets its contract: Lose after an answer for which packet 0 is lost, else Deliver.
 use mathlib.Core.Path.{sym, _∙_}
 use borrow.Author.Needs.{needs}
-use Rattle.steps.proofs.DrainLaws.{follows-loss, follows-delivery}
-use Rattle.steps.proofs.source.turn_after.Statement.{statement}
-use Rattle.steps.proofs.source.turn_after.Tie as tie
+use Rattle.draining.proofs.Following.{follows-loss, follows-delivery}
+use Rattle.draining.proofs.turn_after.Statement.{statement}
+use Rattle.draining.proofs.turn_after.Tie as tie
 
 loses-requires : tie.Need-loses-requires
 loses-requires c κs = search needs
