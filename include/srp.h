@@ -20,7 +20,7 @@
  * 24 bits each; turned down, it too returns the refusal number alone. srp_new_label and
  * srp_script_start have results of their own.
  *
- * STACK. A call uses the caller's stack and allocates nothing. Up to 184,632 bytes were measured
+ * STACK. A call uses the caller's stack and allocates nothing. Up to 165,576 bytes were measured
  * (docs/LAYOUT.md, "Stack"); the library's tests fail where a call needs over 262,144.
  *
  * LINKING. The library needs memcpy and memset, and no other function.

@@ -10,10 +10,10 @@ use native.Mathlib.Omega.{arith}
 use borrow.Author.Tests.{lt-leb}
 use Rattle.base.specs.Results.{Result, refused, accepted}
 use Rattle.base.proofs.Results.{refuse-holds, refuse-passes, not-accepted, same-accepted, same-refused, not-turned-down}
-use Rattle.model.specs.Memory.{Body, request, reply, error, other, Packet, Network, packetAt, airLimit, memoryInRange, setAir}
+use Rattle.model.specs.Memory.{Body, request, reply, error, other, Packet, Network, packetAt, airLimit, memoryInRange, setAir, Sized}
 use Rattle.model.specs.Calls.{Call, Deliver, Lose, Effect, effect, limited, notPacket, removePacket, deliver, step, run}
 use Rattle.model.specs.Walks.{Reached}
-use Rattle.model.proofs.Range.{Sized, Invariant, invariant-in-range, in-range-invariant}
+use Rattle.model.proofs.Range.{Invariant, invariant-in-range, in-range-invariant}
 use Rattle.model.proofs.Refusals.{deliver-limited, lose-accepted}
 use Rattle.model.proofs.EventLaws.{reached-more}
 use Rattle.model.proofs.Steps.{invariant-run}

@@ -6,10 +6,9 @@ use mathlib.Core.List.{List, [], _∷_}
 use lib.ListN.{length}
 use lib.Dec.{eqb}
 use Rattle.base.specs.Results.{refused, accepted}
-use Rattle.model.specs.Memory.{Network, memoryInRange}
+use Rattle.model.specs.Memory.{Network, memoryInRange, Sized}
 use Rattle.model.specs.Calls.{Call, Open, Deliver, Lose, Effect, step, run}
 use Rattle.model.specs.Walks.{Reached}
-use Rattle.model.proofs.Range.{Sized}
 
 -- A turn of the repetition: packet 0 is delivered, or it is lost.
 pub data Turn : Type 0 where

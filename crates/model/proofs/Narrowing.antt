@@ -6,12 +6,12 @@ use lib.Dec.{ltb, eqb}
 use native.Mathlib.Omega.{arith}
 use borrow.Author.Tests.{ltb-true, ltb-false, le-leb, ne-eqb}
 use Rattle.base.specs.Choice.{if_then_else_}
-use Rattle.model.specs.Memory.{Network, memoryInRange}
+use Rattle.model.specs.Memory.{Network, memoryInRange, Sized}
 use Rattle.model.specs.Calls.{Call, Up, Down, Solicit, GiveUp, Expire, Deliver, Lose, Duplicate}
 use Rattle.model.specs.Calls.{notStation, notPair, notPacket, step, traced, trace}
 use Rattle.model.specs.Preview.{numberShown, preview}
 use Rattle.model.specs.Events.{usesOne, notEvent, callOf}
-use Rattle.model.proofs.Range.{Sized, Invariant, in-range-invariant}
+use Rattle.model.proofs.Range.{Invariant, in-range-invariant}
 use Rattle.model.proofs.Refusals.{pair-tells, out-of-range, up-2, down-2, solicit-2, expire-2, give-up-2, deliver-6, lose-6, duplicate-6}
 use Rattle.model.proofs.PreviewLaws.{preview-refused, preview-out-of-range}
 use Rattle.model.proofs.Tracing.{trace-out-of-range, trace-no-pair}

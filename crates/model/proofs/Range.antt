@@ -14,17 +14,10 @@ use Rattle.base.proofs.Lists.{all-below, all-below-at, all-in, all-in-at, empty
 use Rattle.label.specs.declared.Label.{Label}
 use Rattle.label.specs.Label.{inRange}
 use Rattle.model.specs.Memory.{Successor, Row, Record, Body, request, reply, error, other, Packet, Network}
-use Rattle.model.specs.Memory.{labelAt, rowAt, recordAt, soughtAt, names, stations, airLimit, rowLimit}
+use Rattle.model.specs.Memory.{labelAt, rowAt, recordAt, soughtAt, Sized, names, stations, airLimit, rowLimit}
 use Rattle.model.specs.Memory.{successorInRange, rowInRange, recordInRange, ownInRange, cellInRange, placeInRange, stationInRange}
 use Rattle.model.specs.Memory.{headInRange, bodyInRange, packetInRange, airInRange, sizeInRange, memoryInRange}
 use Rattle.model.proofs.Invariant.{SuccessorOk, CellOk, HeadOk, BodyOk, PacketOk, RecordOk, WellFormed}
-
--- The tables have their sizes, as the arrays that stand for them do.
-pub record Sized (net : Network) : Type 0 where
-  pub labels-length : length (net .labels) ≡ 256
-  pub rows-length : length (net .rows) ≡ 256
-  pub records-length : length (net .records) ≡ 256
-  pub sought-length : length (net .sought) ≡ 16
 
 -- The invariant between calls: the air is within its limit too.
 pub record Invariant (Reachable : Type 0) (net : Network) : Type 0 where

@@ -10,14 +10,14 @@ use Rattle.base.proofs.Booleans.{choose}
 use Rattle.base.proofs.Lists.{mem-at}
 use Rattle.base.specs.Results.{Result, accepted, refuse_when_otherwise_}
 use Rattle.base.proofs.Results.{not-turned-down, same-accepted}
-use Rattle.model.specs.Memory.{Network, zeroPacket, setLink, setRow, setActive}
+use Rattle.model.specs.Memory.{Network, zeroPacket, setLink, setRow, setActive, Sized}
 use Rattle.model.specs.Memory.{setRows, setLinks, setNumbers, setSoughts, setActives, setAir}
 use Rattle.model.specs.Memory.{fresh, memoryInRange}
 use Rattle.model.specs.Calls.{Call, Open, Up, Down, Solicit, GiveUp, Expire, Deliver, Lose, Duplicate}
 use Rattle.model.specs.Calls.{Effect, effect, after, limited, notPair, notPacket}
 use Rattle.model.specs.Calls.{solicit, removePacket, notOpening, opening, step, run}
 use Rattle.model.proofs.Invariant.{WellFormed, well-formed-numbers, well-formed-actives, well-formed-row, well-formed-sought, cell-empty}
-use Rattle.model.proofs.Range.{Sized, Invariant, invariant-in-range, in-range-invariant}
+use Rattle.model.proofs.Range.{Invariant, invariant-in-range, in-range-invariant}
 use Rattle.model.proofs.Fresh.{fresh-invariant}
 use Rattle.model.proofs.Refusals.{opening-tells, pair-tells, packet-tells}
 use Rattle.model.proofs.Sending.{air-one, well-formed-send, well-formed-sending, copies-ok, well-formed-remove, well-formed-up, well-formed-down}

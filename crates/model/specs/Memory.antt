@@ -1,5 +1,6 @@
 -- The network's memory (01, "The network's memory"). Lists stand for its tables, and for what has a count: rows and the air.
 use Prim.Native.Nat.{ℕ, zero, suc, _+_, _*_, _^_, min, max}
+use mathlib.Core.Path.{_≡_}
 use mathlib.Core.Bool.{Bool, false, not, _&&_}
 use mathlib.Core.List.{List, [], _∷_, _++_, map, tail}
 use lib.ListN.{length, getD, set, replicate}
@@ -66,6 +67,13 @@ pub record Network : Type 0 where
   pub sought : List ℕ
   pub active : List Bool
   pub air : List Packet
+
+-- The tables have their sizes, as the arrays that stand for them do.
+pub record Sized (net : Network) : Type 0 where
+  pub labels-length : length (net .labels) ≡ 256
+  pub rows-length : length (net .rows) ≡ 256
+  pub records-length : length (net .records) ≡ 256
+  pub sought-length : length (net .sought) ≡ 16
 
 -- Reading. What station i holds for destination or source t stands at 16 · i + t. No call reads past a table's end; zeros stand for what
 -- would be read there.

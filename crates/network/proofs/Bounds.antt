@@ -10,8 +10,7 @@ use denote.Array.{Array, array-vals}
 use denote.Struct.Laws.{vals}
 use Rattle.base.proofs.Lists.{unmapped}
 use Rattle.base.proofs.Loops.{tabulate-length}
-use Rattle.model.specs.Memory.{airLimit}
-use Rattle.model.proofs.Range.{Sized}
+use Rattle.model.specs.Memory.{airLimit, Sized}
 use Rattle.label.specs.declared.Label.{Label}
 use Rattle.rows.specs.View.{rowOf}
 use Rattle.network.specs.declared.Packet.{Packet}

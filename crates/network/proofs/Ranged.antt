@@ -12,9 +12,9 @@ use Rattle.base.proofs.Loops.{tabulate-at}
 use Rattle.label.specs.declared.Label.{Label}
 use Rattle.label.specs.Label.{inRange}
 use Rattle.model.specs.Memory as model
-use Rattle.model.specs.Memory.{place, memoryInRange, airLimit}
+use Rattle.model.specs.Memory.{place, memoryInRange, airLimit, Sized}
 use Rattle.model.proofs.Invariant.{HeadOk, BodyOk, PacketOk, RecordOk}
-use Rattle.model.proofs.Range.{Sized, Invariant, in-range-invariant}
+use Rattle.model.proofs.Range.{Invariant, in-range-invariant}
 use Rattle.rows.specs.View.{zeroRow, entryOf, rowOf, NamesOnce}
 use Rattle.rows.proofs.RowLaws.{row-length}
 use Rattle.network.specs.declared.Packet.{Packet}

@@ -5,7 +5,7 @@ use mathlib.Core.Logic.{_≢_}
 use mathlib.Core.Bool.{false}
 use Rattle.model.specs.Calls.{step, traced, trace}
 use Rattle.model.specs.Events.{usesOne, notEvent, callOf, eventOf}
-use Rattle.model.proofs.Range.{Sized}
+use Rattle.model.specs.Memory.{Sized}
 use Rattle.model.proofs.EventLaws.{event-call}
 use Rattle.model.proofs.Narrowing.{not-event-narrowed, call-narrowed, trace-narrowed}
 use Rattle.network.specs.declared.Memory.{Memory}

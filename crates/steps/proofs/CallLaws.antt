@@ -3,9 +3,8 @@ use Prim.Native.Nat.{ℕ}
 use mathlib.Core.Path.{_≡_, refl, sym, ap, subst, _∙_}
 use mathlib.Core.Bool.{true, false}
 use Rattle.base.specs.Results.{Result, refused, accepted}
-use Rattle.model.specs.Memory.{Network, memoryInRange}
+use Rattle.model.specs.Memory.{Network, memoryInRange, Sized}
 use Rattle.model.specs.Calls.{Call, Effect, effect, after, step}
-use Rattle.model.proofs.Range.{Sized}
 use Rattle.model.proofs.Refusals.{OnMemory, out-of-range}
 use Rattle.model.proofs.Steps.{accepted-in-range}
 use Rattle.network.specs.declared.Memory.{Memory}

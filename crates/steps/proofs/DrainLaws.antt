@@ -17,7 +17,7 @@ use Rattle.model.proofs.Range.{Invariant}
 use Rattle.model.proofs.Answers.{accepted-tells}
 use Rattle.draining.specs.Draining.{Turn, delivery, loss, losesPacket, TurnLeaves, deliveriesIn, lossesIn, turnLimit}
 use Rattle.draining.proofs.Turning.{delivery-more, loss-more, turns-count, kept-accepted, not-lost}
-use Rattle.draining.proofs.Ending.{lose-first, delivers-or-loses, Draining, draining-none, most-turns, turn-left, draining-more, draining-ends}
+use Rattle.draining.proofs.Ending.{lose-first, delivers-or-loses, Draining, draining-none, turn-left, draining-more, draining-ends}
 use Rattle.draining.specs.declared.Event as draining
 use Rattle.draining.specs.Following.{Follows}
 use Rattle.network.specs.declared.Memory.{Memory}
@@ -28,7 +28,7 @@ use Rattle.steps.specs.declared.Happened.{Happened}
 use Rattle.steps.specs.Called.{done, effectOf, Called}
 use Rattle.steps.specs.Happens.{Happens}
 use Rattle.steps.specs.Lines.{packed, Fits}
-use Rattle.steps.specs.Ran.{RanDry}
+use Rattle.steps.specs.Ran.{RanDrain}
 use Rattle.steps.specs.Source.{Listed, Next}
 
 -- The next event, by where it comes from.
@@ -48,7 +48,7 @@ abbrev eventsIn : List Turn → ℕ
 eventsIn turns = deliveriesIn turns + 2 * lossesIn turns
 
 -- The turns so far, and the line told last.
-pub record DrySoFar (memory : Memory) (lines′ : List ℕ) (now : Memory) (lost i : ℕ) : Type 0 where
+pub record DrainSoFar (memory : Memory) (lines′ : List ℕ) (now : Memory) (lost i : ℕ) : Type 0 where
   pub turns : List Turn
   pub draining : Draining (view memory) turns (view now)
   pub lost-are : lost ≡ lossesIn turns
@@ -61,9 +61,9 @@ pub record DrySoFar (memory : Memory) (lines′ : List ℕ) (now : Memory) (lost
   pub awaits : Awaits (losesPacket answer) answer (view now) i (eventsIn turns)
 
 module _ (memory : Memory) (lines : List ℕ) (begins : Invariant ⊥ (view memory)) where
-  pub dry-none : lines ≡ 0 ∷ [] → DrySoFar memory lines memory 0 0
+  pub drain-none : lines ≡ 0 ∷ [] → DrainSoFar memory lines memory 0 0
   unfolding packed losesPacket deliveriesIn lossesIn
-  dry-none e = record {
+  drain-none e = record {
     turns = [];
     draining = draining-none (view memory) begins;
     lost-are = refl;
@@ -76,7 +76,7 @@ module _ (memory : Memory) (lines : List ℕ) (begins : Invariant ⊥ (view memo
     awaits = refl;
   }
 
-module _ {memory : Memory} {lines′ : List ℕ} {now : Memory} {lost i : ℕ} (s : DrySoFar memory lines′ now lost i) where
+module _ {memory : Memory} {lines′ : List ℕ} {now : Memory} {lost i : ℕ} (s : DrainSoFar memory lines′ now lost i) where
   -- As many packets are in the air as the memory counts.
   some-air : 0 < now .air .count → 0 < length (view now .air)
   unfolding view
@@ -101,31 +101,31 @@ module _ {memory : Memory} {lines′ : List ℕ} {now : Memory} {lost i : ℕ} (
   follows : {e : draining.Event} → Next true [] [] i (getD lines′ 0 0) e → Follows (s .answer) e
   follows k = k (s .answer) (s .sent) (s .air) (s .hops) (s .fits) (ap (λ (l : List ℕ). getD l 0 0) (s .line))
 
-  pub dry-lost : {e : draining.Event} → Next true [] [] i (getD lines′ 0 0) e → e .losses ≤ 1
-  dry-lost {e} k = go (losesPacket (s .answer)) (follows k .losses)
+  pub drain-lost : {e : draining.Event} → Next true [] [] i (getD lines′ 0 0) e → e .losses ≤ 1
+  drain-lost {e} k = go (losesPacket (s .answer)) (follows k .losses)
     where
       go : (b : Bool) → e .losses ≡ (if b then 1 else 0) → e .losses ≤ 1
       go true q = omega arith
       go false q = omega arith
 
-module _ {memory : Memory} {lines′ : List ℕ} {now : Memory} {lost i : ℕ} (begins : Invariant ⊥ (view memory)) (s : DrySoFar memory lines′ now lost i) where
-  pub dry-below : 0 < now .air .count → i < 2 * turnLimit (memory .n) (memory .air .count)
+module _ {memory : Memory} {lines′ : List ℕ} {now : Memory} {lost i : ℕ} (begins : Invariant ⊥ (view memory)) (s : DrainSoFar memory lines′ now lost i) where
+  pub drain-below : 0 < now .air .count → i < 2 * turnLimit (memory .n) (memory .air .count)
   unfolding view
-  dry-below h =
+  drain-below h =
       let below = rw air-length at (turn-left (view memory) begins (s .draining) (some-air s h)) in
       omega (arith, events-most s)
 
   -- The next event: of Lose and of Deliver.
   module _ (h : 0 < now .air .count) (r : Happened) {v : ℕ} (is : (v ≡ packed (r .answer) (r .sent) (r .memory .air .count) (r .hops)) × Fits (r .answer) (r .sent) (r .memory .air .count) (r .hops)) where
     abbrev After : ℕ → Type 0
-    After lost′ = DrySoFar memory (set lines′ 0 v) (r .memory) lost′ (i + 1)
+    After lost′ = DrainSoFar memory (set lines′ 0 v) (r .memory) lost′ (i + 1)
 
     told : set lines′ 0 v ≡ packed (r .answer) (r .sent) (r .memory .air .count) (r .hops) ∷ []
     told = ap (λ (l : List ℕ). set l 0 v) (s .line) ∙ ap (λ (x : ℕ). x ∷ []) (is .0)
 
-    dry-loss : losesPacket (s .answer) ≡ true → Called now (step (Lose 0) (view now)) (done (r .memory) (r .answer) (r .sent)) → After (lost + 1)
+    drain-loss : losesPacket (s .answer) ≡ true → Called now (step (Lose 0) (view now)) (done (r .memory) (r .answer) (r .sent)) → After (lost + 1)
     unfolding Called losesPacket
-    dry-loss loses called =
+    drain-loss loses called =
         let lose = lose-first (view now) (s .draining .kept) (some-air s h) in
         let gave = subst (λ z. Called now z (done (r .memory) (r .answer) (r .sent))) lose called .0 in
         let a = subst (λ b. Awaits b (s .answer) (view now) i (eventsIn (s .turns))) loses (s .awaits) in
@@ -145,9 +145,9 @@ module _ {memory : Memory} {lines′ : List ℕ} {now : Memory} {lost i : ℕ} (
           awaits = rw (ap (λ (x : Effect). x .answer) gave) (omega (arith, a .1, counts));
         }
 
-    dry-delivery : losesPacket (s .answer) ≡ false → Called now (step (Deliver 0) (view now)) (done (r .memory) (r .answer) (r .sent)) → After lost
+    drain-delivery : losesPacket (s .answer) ≡ false → Called now (step (Deliver 0) (view now)) (done (r .memory) (r .answer) (r .sent)) → After lost
     unfolding Called
-    dry-delivery loses called = go (step (Deliver 0) (view now)) refl called
+    drain-delivery loses called = go (step (Deliver 0) (view now)) refl called
       where
         made : i ≡ eventsIn (s .turns)
         made = subst (λ b. Awaits b (s .answer) (view now) i (eventsIn (s .turns))) loses (s .awaits)
@@ -185,28 +185,27 @@ module _ {memory : Memory} {lines′ : List ℕ} {now : Memory} {lost i : ℕ} (
               awaits = rw (kept-accepted (r .answer) (ap (λ (y : Effect). isRefusal (y .answer)) (c .0) ∙ accepts)) (omega (arith, made, counts));
             }
 
-    pub dry-more : (e : draining.Event) → Next true [] [] i (getD lines′ 0 0) e → Happens now (eventOf (e .kind) (e .a) (e .b)) r → After (lost + e .losses)
+    pub drain-more : (e : draining.Event) → Next true [] [] i (getD lines′ 0 0) e → Happens now (eventOf (e .kind) (e .a) (e .b)) r → After (lost + e .losses)
     unfolding Happens eventOf notEvent usesOne callOf
-    dry-more e k so = go (losesPacket (s .answer)) refl (follows s k)
+    drain-more e k so = go (losesPacket (s .answer)) refl (follows s k)
       where
         go : (b : Bool) → losesPacket (s .answer) ≡ b → Follows (s .answer) e → After (lost + e .losses)
         go true q f =
             let w = rw (f .kind, f .first, f .second, q) at so in
             let one : lost + 1 ≡ lost + e .losses = omega (arith, f .losses ∙ ap (λ (b : Bool). if b then 1 else 0) q) in
-            subst After one (dry-loss q (w .0))
+            subst After one (drain-loss q (w .0))
         go false q f =
             let w = rw (f .kind, f .first, f .second, q) at so in
             let none : lost ≡ lost + e .losses = omega (arith, f .losses ∙ ap (λ (b : Bool). if b then 1 else 0) q) in
-            subst After none (dry-delivery q (w .0))
+            subst After none (drain-delivery q (w .0))
 
   -- No packet is left.
-  pub dry-ends : now .air .count ≤ 0 → RanDry memory (record { memory = now; events = i; losses = lost })
-  dry-ends h = record {
+  pub drain-ends : now .air .count ≤ 0 → RanDrain memory (record { memory = now; events = i; losses = lost })
+  drain-ends h = record {
     turns = s .turns;
     drained = draining-ends (view memory) begins (s .draining) empty;
     losses = s .lost-are;
     events = whole (losesPacket (s .answer)) refl (s .awaits);
-    few = omega (arith, whole (losesPacket (s .answer)) refl (s .awaits), turns-count (s .turns), s .draining .left, most-turns (view memory) begins);
   }
     where
       empty : view now .air ≡ []

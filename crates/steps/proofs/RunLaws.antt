@@ -13,11 +13,11 @@ use Rattle.base.specs.Lists.{tabulate}
 use Rattle.base.proofs.Booleans.{clash, Trichotomy, less, equal, more, trichotomy}
 use Rattle.base.proofs.Loops.{tabulate-length, tabulate-more}
 use Rattle.codec.proofs.ByteLaws.{sets-next}
-use Rattle.model.specs.Memory.{memoryInRange, airLimit}
+use Rattle.model.specs.Memory.{memoryInRange, airLimit, Sized}
 use Rattle.model.specs.Calls.{run}
 use Rattle.model.specs.Events.{eventOf, eventAt, callsIn, eventLimit, afterEvents}
 use Rattle.model.specs.Printout.{Line, line, lineAt}
-use Rattle.model.proofs.Range.{Sized, Invariant, in-range-invariant}
+use Rattle.model.proofs.Range.{Invariant, in-range-invariant}
 use Rattle.model.proofs.EventLaws.{after-more}
 use Rattle.draining.specs.declared.Event.{Event}
 use Rattle.draining.specs.Draining.{turnLimit}
@@ -35,7 +35,7 @@ use Rattle.steps.specs.Lines.{packed, Fits}
 use Rattle.steps.specs.Ran.{Ran, told, ToldFit, RunEnds}
 use Rattle.steps.specs.Source.{Listed, Next}
 use Rattle.steps.proofs.HappenLaws.{happens-after, happens-in-range, happens-line}
-use Rattle.steps.proofs.DrainLaws.{DrySoFar, dry-none, dry-below, dry-lost, dry-more, dry-ends}
+use Rattle.steps.proofs.DrainLaws.{DrainSoFar, drain-none, drain-below, drain-lost, drain-more, drain-ends}
 
 -- The memory with these packets in the air.
 abbrev pub airing : Memory → List Packet → ℕ → Memory
@@ -165,7 +165,7 @@ module _ {memory : Memory} {kinds operands lines : List ℕ} where
 -- What holds before each turn, of the memory and the lent array at the start and now.
 abbrev SoFar : (drains : Bool) → Memory → (kinds operands lines lines′ : List ℕ) → (now : Memory) → (lost i : ℕ) → Type 0
 SoFar false memory kinds operands lines lines′ now lost i = ListSoFar memory kinds operands lines lines′ now i
-SoFar true memory kinds operands lines lines′ now lost i = DrySoFar memory lines′ now lost i
+SoFar true memory kinds operands lines lines′ now lost i = DrainSoFar memory lines′ now lost i
 
 pub record Turn (drains : Bool) (memory : Memory) (kinds operands lines lines′ : List ℕ) (next : Memory) (packets : List Packet) (count lost i : ℕ) : Type 0 where
   pub shape : Shape next packets
@@ -209,7 +209,7 @@ module _ {memory : Memory} {kinds operands lines : List ℕ} where
   turn-none drains b = record { shape = b .shape; ranged = b .ranged; same-length = refl; few-lost = omega arith; so-far = start drains b }
     where
       start : (drains : Bool) → Begins drains memory kinds lines → SoFar drains memory kinds operands lines lines memory 0 0
-      start true b = dry-none memory lines (begins-invariant b) (b .one-line refl)
+      start true b = drain-none memory lines (begins-invariant b) (b .one-line refl)
       start false b = list-none
 
   module _ {lines′ : List ℕ} {next : Memory} {packets : List Packet} {count lost i : ℕ} where
@@ -217,7 +217,7 @@ module _ {memory : Memory} {kinds operands lines : List ℕ} where
     pub turn-below : (drains : Bool) → Turn drains memory kinds operands lines lines′ next packets count lost i → Begins drains memory kinds lines
         → (if drains then ltb 0 count else ltb i (length kinds)) ≡ true → i < mostEvents drains memory kinds
     unfolding mostEvents
-    turn-below true t b g = dry-below (begins-invariant b) (t .so-far) (ltb-true 0 count g)
+    turn-below true t b g = drain-below (begins-invariant b) (t .so-far) (ltb-true 0 count g)
     turn-below false t b g = ltb-true i (length kinds) g
 
     -- Its line has a place.
@@ -228,7 +228,7 @@ module _ {memory : Memory} {kinds operands lines : List ℕ} where
 
     -- It loses one packet at most.
     pub turn-lost : (drains : Bool) → Turn drains memory kinds operands lines lines′ next packets count lost i → (e : Event) → Next drains kinds operands i (getD lines′ 0 0) e → e .losses ≤ 1
-    turn-lost true t e k = dry-lost (t .so-far) k
+    turn-lost true t e k = drain-lost (t .so-far) k
     turn-lost false t e k = omega (arith, k .losses)
 
     -- It happens.
@@ -248,13 +248,13 @@ module _ {memory : Memory} {kinds operands lines : List ℕ} where
         rest : (drains : Bool) → Turn drains memory kinds operands lines lines′ next packets count lost i → Begins drains memory kinds lines
             → (if drains then ltb 0 count else ltb i (length kinds)) ≡ true → Next drains kinds operands i (getD lines′ 0 0) e → at ≡ (if drains then 0 else i)
             → SoFar drains memory kinds operands lines (set lines′ at v) (airing next′ packets′ count′) (lost + e .losses) (i + 1)
-        rest true t b g k a = rw a (dry-more (begins-invariant b) (t .so-far) (ltb-true 0 count g) (happened (airing next′ packets′ count′) answer sent hop) is e k so)
+        rest true t b g k a = rw a (drain-more (begins-invariant b) (t .so-far) (ltb-true 0 count g) (happened (airing next′ packets′ count′) answer sent hop) is e k so)
         rest false t b g k a = rw a (list-more (t .so-far) (ltb-true i (length kinds) g) e k (happened (airing next′ packets′ count′) answer sent hop) is so)
 
     -- There is no next event.
     pub turn-ends : (drains : Bool) → Turn drains memory kinds operands lines lines′ next packets count lost i → Begins drains memory kinds lines
         → (if drains then ltb 0 count else ltb i (length kinds)) ≡ false → RunEnds drains memory kinds operands lines lines′ (record { memory = airing next packets count; events = i; losses = lost })
-    turn-ends true t b g = dry-ends (begins-invariant b) (t .so-far) (ltb-false 0 count g)
+    turn-ends true t b g = drain-ends (begins-invariant b) (t .so-far) (ltb-false 0 count g)
     turn-ends false t b g =
         let last : i ≡ length kinds = omega (arith, t .so-far .among, ltb-false i (length kinds) g) in
         let s = rw last at (t .so-far) in

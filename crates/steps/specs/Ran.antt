@@ -1,5 +1,5 @@
 -- What a run of events leaves, and what it tells.
-use Prim.Native.Nat.{ℕ, zero, suc, _+_, _*_, _≤_, _<_}
+use Prim.Native.Nat.{ℕ, zero, suc, _+_, _*_, _<_}
 use mathlib.Core.Path.{_≡_}
 use mathlib.Core.Bool.{Bool, true, false}
 use mathlib.Core.List.{List}
@@ -38,14 +38,13 @@ pub record RanList (memory : Memory) (kinds operands lines lines′ : List ℕ) 
   pub told-are : lines′ ≡ sets lines 0 (tabulate (length kinds) (told (view memory) kinds operands))
 
 -- The air is drained. A packet lost is two events: Deliver, which was turned down, and Lose.
-pub record RanDry (memory : Memory) (r : Run) : Type 0 where
+pub record RanDrain (memory : Memory) (r : Run) : Type 0 where
   pub turns : List Turn
   pub drained : Drained (view memory) turns (view (r .memory))
   pub losses : r .losses ≡ lossesIn turns
   pub events : r .events ≡ deliveriesIn turns + 2 * lossesIn turns
-  pub few : r .events ≤ 138_272
 
 -- A run ended so.
 abbrev pub RunEnds : (drains : Bool) → Memory → (kinds operands lines lines′ : List ℕ) → Run → Type 0
 RunEnds false memory kinds operands lines lines′ r = RanList memory kinds operands lines lines′ r
-RunEnds true memory kinds operands lines lines′ r = RanDry memory r
+RunEnds true memory kinds operands lines lines′ r = RanDrain memory r

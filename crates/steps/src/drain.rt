@@ -19,11 +19,14 @@ pub fn drain_in_range(memory: Memory) -> Drained
     let ran = run(memory, true, &kinds, &operands, &mut lines);
     let events = ran.events;
     let losses = ran.losses;
+    let lost = losses as usize;
+    let delivered = events - 2 * lost;
+    let deliveries = delivered as u32;
     let next = ran.memory;
     Drained {
         memory: next,
         answer: 0,
-        deliveries: (events - 2 * (losses as usize)) as u32,
+        deliveries: deliveries,
         losses: losses,
     }
 }

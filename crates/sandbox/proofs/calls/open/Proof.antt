@@ -6,7 +6,7 @@ use native.Mathlib.Omega.{arith}
 use borrow.Author.Needs.{needs}
 use Rattle.model.specs.Memory as model
 use Rattle.model.specs.Calls.{effect, notOpening}
-use Rattle.model.proofs.Range.{Sized}
+use Rattle.model.specs.Memory.{Sized}
 use Rattle.model.proofs.Refusals.{open-1, open-accepted, opening-tells}
 use Rattle.network.specs.View.{view}
 use Rattle.network.proofs.Bounds.{sized}

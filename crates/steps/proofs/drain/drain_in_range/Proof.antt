@@ -1,7 +1,8 @@
--- `drain::drain_in_range` meets its contract: the memory and the losses are the run's, and what the losses leave of its events are deliveries.
+-- `drain::drain_in_range` meets its contract: the memory and the losses are the run's, and the events that no loss took are deliveries.
 use mathlib.Core.Path.{refl}
 use native.Mathlib.Omega.{arith}
 use borrow.Author.Needs.{needs}
+use Rattle.draining.proofs.Ending.{limit-largest}
 use Rattle.steps.proofs.drain.drain_in_range.Statement.{statement}
 use Rattle.steps.proofs.drain.drain_in_range.Tie as tie
 
@@ -17,17 +18,19 @@ slice-aggregate-run-3 c = search needs
 run-requires : tie.Need-run-requires
 run-requires c κs = search needs
 
-cast-t15 : tie.Need-cast-t15
-cast-t15 c = search needs
+cast-lost : tie.Need-cast-lost
+cast-lost c = search needs
 
-mul-t16 : tie.Need-mul-t16
-mul-t16 c = search needs
+mul-delivered : tie.Need-mul-delivered
+mul-delivered c = search needs
 
-sub-t17 : tie.Need-sub-t17
-sub-t17 c = search needs
+sub-delivered : tie.Need-sub-delivered
+sub-delivered c = search needs
 
-cast-t18 : tie.Need-cast-t18
-cast-t18 c = search needs
+cast-deliveries : tie.Need-cast-deliveries
+cast-deliveries c =
+    let ran = c .before .run .ensures in
+    record { fits = omega (arith, ran .events, ran .losses, ran .drained .bounded, ran .drained .largest, limit-largest) }
 
 returns : tie.Need-returns
 returns c =
@@ -42,8 +45,8 @@ drain-in-range-spec =
     slice-aggregate-run-2
     slice-aggregate-run-3
     run-requires
-    cast-t15
-    mul-t16
-    sub-t17
-    cast-t18
+    cast-lost
+    mul-delivered
+    sub-delivered
+    cast-deliveries
     returns)
