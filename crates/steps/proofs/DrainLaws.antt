@@ -123,6 +123,22 @@ module _ {memory : Memory} {lines′ : List ℕ} {now : Memory} {lost i : ℕ} (
     told : set lines′ 0 v ≡ packed (r .answer) (r .sent) (r .memory .air .count) (r .hops) ∷ []
     told = ap (λ (l : List ℕ). set l 0 v) (s .line) ∙ ap (λ (x : ℕ). x ∷ []) (is .0)
 
+    -- The turns after it, and its line.
+    ended : {lost′ : ℕ} (turns : List Turn) → Draining (view memory) turns (view (r .memory)) → lost′ ≡ lossesIn turns
+        → Awaits (losesPacket (r .answer)) (r .answer) (view (r .memory)) (i + 1) (eventsIn turns) → After lost′
+    ended turns draining lost-are awaits = record {
+      turns = turns;
+      draining = draining;
+      lost-are = lost-are;
+      answer = r .answer;
+      sent = r .sent;
+      air = r .memory .air .count;
+      hops = r .hops;
+      line = told;
+      fits = is .1;
+      awaits = awaits;
+    }
+
     drain-loss : losesPacket (s .answer) ≡ true → Called now (step (Lose 0) (view now)) (done (r .memory) (r .answer) (r .sent)) → After (lost + 1)
     unfolding Called losesPacket
     drain-loss loses called =
@@ -132,18 +148,8 @@ module _ {memory : Memory} {lines′ : List ℕ} {now : Memory} {lost i : ℕ} (
         let leaves : TurnLeaves loss (view now) (view (r .memory)) =
         (s .answer, effect 0 0 (removePacket 0 (view now)), a .0, loses, lose, ap (λ (x : Effect). x .net) gave) in
         let counts = loss-more (s .turns) in
-        record {
-          turns = s .turns ++ (loss ∷ []);
-          draining = draining-more (view memory) begins (s .draining) (some-air s h) loss (view (r .memory)) leaves;
-          lost-are = omega (arith, s .lost-are, counts .1);
-          answer = r .answer;
-          sent = r .sent;
-          air = r .memory .air .count;
-          hops = r .hops;
-          line = told;
-          fits = is .1;
-          awaits = rw (ap (λ (x : Effect). x .answer) gave) (omega (arith, a .1, counts));
-        }
+        ended (s .turns ++ (loss ∷ [])) (draining-more (view memory) begins (s .draining) (some-air s h) loss (view (r .memory)) leaves)
+        (omega (arith, s .lost-are, counts .1)) (rw (ap (λ (x : Effect). x .answer) gave) (omega (arith, a .1, counts)))
 
     drain-delivery : losesPacket (s .answer) ≡ false → Called now (step (Deliver 0) (view now)) (done (r .memory) (r .answer) (r .sent)) → After lost
     unfolding Called
@@ -156,34 +162,14 @@ module _ {memory : Memory} {lines′ : List ℕ} {now : Memory} {lost i : ℕ} (
         go (refused number) e c =
             let same : r .answer ≡ number = ap (λ (d : Done). d .answer) c in
             let kept : view (r .memory) ≡ view now = ap (λ (d : Done). view (d .memory)) c in
-            record {
-              turns = s .turns;
-              draining = subst (Draining (view memory) (s .turns)) (sym kept) (s .draining);
-              lost-are = s .lost-are;
-              answer = r .answer;
-              sent = r .sent;
-              air = r .memory .air .count;
-              hops = r .hops;
-              line = told;
-              fits = is .1;
-              awaits = rw (same, kept, delivers-or-loses (view now) (s .draining .kept) (some-air s h) number e) (e, omega (arith, made));
-            }
+            ended (s .turns) (subst (Draining (view memory) (s .turns)) (sym kept) (s .draining)) (s .lost-are)
+            (rw (same, kept, delivers-or-loses (view now) (s .draining .kept) (some-air s h) number e) (e, omega (arith, made)))
         go (accepted x) e c =
             let accepts = accepted-tells (Deliver 0) (view now) x e in
             let leaves : TurnLeaves delivery (view now) (view (r .memory)) = (x, e, ap (λ (y : Effect). y .net) (c .0)) in
             let counts = delivery-more (s .turns) in
-            record {
-              turns = s .turns ++ (delivery ∷ []);
-              draining = draining-more (view memory) begins (s .draining) (some-air s h) delivery (view (r .memory)) leaves;
-              lost-are = omega (arith, s .lost-are, counts .1);
-              answer = r .answer;
-              sent = r .sent;
-              air = r .memory .air .count;
-              hops = r .hops;
-              line = told;
-              fits = is .1;
-              awaits = rw (kept-accepted (r .answer) (ap (λ (y : Effect). isRefusal (y .answer)) (c .0) ∙ accepts)) (omega (arith, made, counts));
-            }
+            ended (s .turns ++ (delivery ∷ [])) (draining-more (view memory) begins (s .draining) (some-air s h) delivery (view (r .memory)) leaves)
+            (omega (arith, s .lost-are, counts .1)) (rw (kept-accepted (r .answer) (ap (λ (y : Effect). isRefusal (y .answer)) (c .0) ∙ accepts)) (omega (arith, made, counts)))
 
     pub drain-more : (e : draining.Event) → Next true [] [] i (getD lines′ 0 0) e → Happens now (eventOf (e .kind) (e .a) (e .b)) r → After (lost + e .losses)
     unfolding Happens eventOf notEvent usesOne callOf
