@@ -29,6 +29,7 @@ enum { ROUNDS = 101, CALLS = 100, STATIONS = 16, SEEKERS = 6, EVENTS = 4096 };
 typedef uint64_t opening(uint8_t *memory, size_t length, size_t n, uint64_t start);
 typedef uint64_t call_on_pair(uint8_t *memory, size_t length, size_t a, size_t b);
 typedef uint64_t call_on_packet(uint8_t *memory, size_t length, size_t k);
+typedef uint64_t call_alone(uint8_t *memory, size_t length);
 typedef uint64_t reading(const uint8_t *script, size_t length, uint8_t *kinds, size_t kinds_length, uint8_t *operands, size_t operands_length);
 typedef uint64_t writing(size_t n, uint64_t start, const uint8_t *kinds, size_t kinds_length, const uint8_t *operands, size_t operands_length,
                          uint8_t *out, size_t out_length);
@@ -40,6 +41,7 @@ struct build {
     call_on_packet *deliver, *lose, *duplicate;
     reading *read_script;
     writing *write_script;
+    call_alone *drain; /* NULL in a build that has none */
 };
 
 static uint8_t network[SRP_LENGTH]; /* what each timed call starts from: requests in the air, */
@@ -71,7 +73,8 @@ static struct build loaded(const char *path, const char *program) {
                           found(library, "srp_lose"),
                           found(library, "srp_duplicate"),
                           found(library, "srp_read_script"),
-                          found(library, "srp_write_script")};
+                          found(library, "srp_write_script"),
+                          dlsym(library, "srp_drain")};
 }
 
 static double now(void) {
@@ -146,6 +149,20 @@ static double first_lost(const struct build *b) { return timed_call(b->lose, net
 static double last_lost(const struct build *b) { return timed_call(b->lose, network, SEEKERS * (STATIONS - 1) - 1); }
 static double first_doubled(const struct build *b) { return timed_call(b->duplicate, network, 0); }
 static double error_delivered(const struct build *b) { return timed_call(b->deliver, broken, 0); }
+
+/* Nanoseconds for each packet that is delivered or lost where 90 are in the air. */
+static double drained(const struct build *b) {
+    static uint8_t memory[SRP_LENGTH];
+    uint64_t turns = 0;
+    double began = now();
+    for (int i = 0; i < CALLS / 10; i++) {
+        memcpy(memory, network, SRP_LENGTH);
+        uint64_t r = b->drain(memory, SRP_LENGTH);
+        if (SRP_REFUSED(r)) fail("drain");
+        turns += SRP_DELIVERIES(r) + SRP_LOSSES(r);
+    }
+    return (now() - began) / (double)turns;
+}
 
 static double went_down(const struct build *b) {
     static uint8_t memory[SRP_LENGTH];
@@ -226,6 +243,7 @@ int main(int count, char **arguments) {
     row("`srp_duplicate` of the first", first_doubled, &this, &other);
     row("`srp_deliver` of an error", error_delivered, &this, &other);
     row("`srp_down`", went_down, &this, &other);
+    if (this.drain && other.drain) row("a packet of `srp_drain`, 90 in the air", drained, &this, &other);
     row("a script of 4,096 events, read", script_read, &this, &other);
     row("a script of 4,096 events, written", script_written, &this, &other);
     row("a rehearsal of 4,096 events", packets_rehearsed, &this, &other);
