@@ -10,17 +10,17 @@ use native.Mathlib.Omega.{arith}
 use borrow.Author.Tests.{lt-leb}
 use Rattle.base.specs.Results.{Result, refused, accepted}
 use Rattle.base.proofs.Results.{refuse-holds, refuse-passes, not-accepted, same-accepted, same-refused, not-turned-down}
-use Rattle.model.specs.Memory.{Body, request, reply, error, other, Packet, Network, packetAt, airLimit, memoryInRange, setAir, Sized}
-use Rattle.model.specs.Calls.{Call, Deliver, Lose, Effect, effect, limited, notPacket, removePacket, deliver, step, run}
+use Rattle.model.specs.Memory.{Body, request, reply, error, other, Packet, Network, packetAt, airLimit, setAir}
+use Rattle.model.specs.Calls.{Deliver, Lose, Effect, effect, limited, notPacket, removePacket, deliver, step}
 use Rattle.model.specs.Walks.{Reached}
 use Rattle.model.proofs.Range.{Invariant, invariant-in-range, in-range-invariant}
 use Rattle.model.proofs.Refusals.{deliver-limited, lose-accepted}
 use Rattle.model.proofs.EventLaws.{reached-more}
 use Rattle.model.proofs.Steps.{invariant-run}
-use Rattle.draining.specs.Draining.{Turn, delivery, loss, losesPacket, TurnLeaves, Turns, Drains, deliveriesIn, lossesIn, turnLimit, callsOf, Drained, AllDrain}
+use Rattle.draining.specs.Draining.{Turn, delivery, loss, losesPacket, TurnLeaves, Turns, Drains, turnLimit, callsOf, Drained, AllDrain}
 use Rattle.draining.proofs.Sums.{in-most, in-least}
 use Rattle.draining.proofs.Potential.{RequestId, credits-most, rows-most, body-least, body-most, packetCredit, airCredits, potential}
-use Rattle.draining.proofs.Spending.{BodyOf, AirOf, Spent, potential-first, air-removed, spent-delivery}
+use Rattle.draining.proofs.Spending.{BodyOf, AirOf, potential-first, air-removed, spent-delivery}
 use Rattle.draining.proofs.Turning.{turns-more, turns-count, turns-run, drains-only}
 
 -- The requests under way at the start: those of its packets. An error is of none, and counts as one of its own.

@@ -6,10 +6,10 @@ use mathlib.Core.List.{List, [], _∷_, _++_}
 use lib.ListN.{length}
 use native.Mathlib.Omega.{arith}
 use borrow.Author.Tests.{eqb-true}
-use Rattle.base.specs.Results.{refused, accepted, isRefusal}
+use Rattle.base.specs.Results.{refused, isRefusal}
 use Rattle.base.proofs.Booleans.{clash}
 use Rattle.base.proofs.Results.{not-accepted, same-accepted, same-refused}
-use Rattle.model.specs.Memory.{Packet, Network, memoryInRange}
+use Rattle.model.specs.Memory.{Network, memoryInRange}
 use Rattle.model.specs.Calls.{Deliver, Lose, Effect, after, notPacket, step, run}
 use Rattle.model.proofs.Refusals.{out-of-range, deliver-6}
 use Rattle.draining.specs.Draining.{Turn, delivery, loss, losesPacket, TurnLeaves, Turns, Drains, deliveriesIn, lossesIn, callsOf}

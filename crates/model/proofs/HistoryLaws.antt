@@ -1,6 +1,6 @@
 -- Lists of actions on a state of any kind leave what a list of the model's calls leaves, if each action does.
 use Prim.Native.Nat.{ℕ}
-use mathlib.Core.Path.{_≡_, refl, sym, subst, _∙_}
+use mathlib.Core.Path.{_≡_, refl, sym, subst}
 use mathlib.Core.Bool.{false}
 use mathlib.Core.List.{List, [], _∷_, _++_}
 use Rattle.model.specs.Memory.{Network, fresh}

@@ -1,9 +1,9 @@
 -- A run of events, as the code makes it.
 use Prim.Native.Nat.{ℕ, _≤_, _<_}
-use mathlib.Core.Path.{_≡_, refl, sym, ap, subst, _∙_}
+use mathlib.Core.Path.{_≡_, sym, ap, subst, _∙_}
 use mathlib.Core.Logic.{_≢_}
 use mathlib.Core.Bool.{true, false, not}
-use mathlib.Core.List.{List, _++_}
+use mathlib.Core.List.{List}
 use lib.ListN.{length}
 use lib.Seq.{sets}
 use lib.Dec.{ltb}
@@ -16,7 +16,7 @@ use Rattle.base.proofs.Results.{refuse-holds, refuse-passes}
 use Rattle.codec.specs.Bytes.{putInto}
 use Rattle.codec.proofs.ByteLaws.{sets-over}
 use Rattle.model.specs.Memory.{Network, memoryInRange}
-use Rattle.model.specs.Calls.{Call, effect, run, trace}
+use Rattle.model.specs.Calls.{effect, run, trace}
 use Rattle.model.specs.Walks.{Reached}
 use Rattle.model.specs.Events.{eventAt, callsIn, notEvents, allEvents, afterEvents, running}
 use Rattle.model.specs.Printout.{lineAt, eventLines}

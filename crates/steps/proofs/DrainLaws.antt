@@ -4,6 +4,7 @@ use mathlib.Core.Path.{_≡_, refl, sym, ap, subst, _∙_}
 use mathlib.Core.Bool.{Bool, true, false}
 use mathlib.Core.List.{List, [], _∷_, _++_}
 use lib.ListN.{length, getD, set}
+use native.Mathlib.Nat.{add-zero}
 use native.Mathlib.Omega.{arith}
 use Rattle.base.specs.Choice.{if_then_else_}
 use Rattle.base.specs.Results.{Result, refused, accepted, isRefusal}
@@ -12,22 +13,22 @@ use Rattle.base.proofs.Results.{same-refused}
 use Rattle.model.specs.Memory as model
 use Rattle.model.specs.Memory.{Network}
 use Rattle.model.specs.Calls.{Deliver, Lose, Effect, effect, removePacket, step}
-use Rattle.model.specs.Events.{usesOne, notEvent, callOf, Event, calls, eventOf}
+use Rattle.model.specs.Events.{usesOne, notEvent, callOf, eventOf}
 use Rattle.model.proofs.Range.{Invariant}
 use Rattle.model.proofs.Answers.{accepted-tells}
+use Rattle.draining.specs.declared.Event as draining
+use Rattle.draining.specs.Following.{Follows}
 use Rattle.draining.specs.Draining.{Turn, delivery, loss, losesPacket, TurnLeaves, deliveriesIn, lossesIn, turnLimit}
 use Rattle.draining.proofs.Turning.{delivery-more, loss-more, turns-count, kept-accepted, not-lost}
 use Rattle.draining.proofs.Ending.{lose-first, delivers-or-loses, Draining, draining-none, turn-left, draining-more, draining-ends}
-use Rattle.draining.specs.declared.Event as draining
-use Rattle.draining.specs.Following.{Follows}
 use Rattle.network.specs.declared.Memory.{Memory}
 use Rattle.network.specs.View.{airOf, view}
 use Rattle.network.proofs.PacketLaws.{air-length}
 use Rattle.steps.specs.declared.Done.{Done}
 use Rattle.steps.specs.declared.Happened.{Happened}
-use Rattle.steps.specs.Called.{done, effectOf, Called}
+use Rattle.steps.specs.Called.{done, Called}
 use Rattle.steps.specs.Happens.{Happens}
-use Rattle.steps.specs.Lines.{packed, Fits}
+use Rattle.steps.specs.Lines.{packed, Fits, Packs}
 use Rattle.steps.specs.Ran.{RanDrain}
 use Rattle.steps.specs.Source.{Listed, Next}
 
@@ -116,7 +117,7 @@ module _ {memory : Memory} {lines′ : List ℕ} {now : Memory} {lost i : ℕ} (
       omega (arith, events-most s)
 
   -- The next event: of Lose and of Deliver.
-  module _ (h : 0 < now .air .count) (r : Happened) {v : ℕ} (is : (v ≡ packed (r .answer) (r .sent) (r .memory .air .count) (r .hops)) × Fits (r .answer) (r .sent) (r .memory .air .count) (r .hops)) where
+  module _ (h : 0 < now .air .count) (r : Happened) {v : ℕ} (is : Packs v (r .answer) (r .sent) (r .memory .air .count) (r .hops)) where
     abbrev After : ℕ → Type 0
     After lost′ = DrainSoFar memory (set lines′ 0 v) (r .memory) lost′ (i + 1)
 
@@ -178,12 +179,12 @@ module _ {memory : Memory} {lines′ : List ℕ} {now : Memory} {lost i : ℕ} (
         go : (b : Bool) → losesPacket (s .answer) ≡ b → Follows (s .answer) e → After (lost + e .losses)
         go true q f =
             let w = rw (f .kind, f .first, f .second, q) at so in
-            let one : lost + 1 ≡ lost + e .losses = omega (arith, f .losses ∙ ap (λ (b : Bool). if b then 1 else 0) q) in
-            subst After one (drain-loss q (w .0))
+            let one : e .losses ≡ 1 = rw q at (f .losses) in
+            rw one (drain-loss q (w .0))
         go false q f =
             let w = rw (f .kind, f .first, f .second, q) at so in
-            let none : lost ≡ lost + e .losses = omega (arith, f .losses ∙ ap (λ (b : Bool). if b then 1 else 0) q) in
-            subst After none (drain-delivery q (w .0))
+            let none : e .losses ≡ 0 = rw q at (f .losses) in
+            rw (none, add-zero) (drain-delivery q (w .0))
 
   -- No packet is left.
   pub drain-ends : now .air .count ≤ 0 → RanDrain memory (record { memory = now; events = i; losses = lost })

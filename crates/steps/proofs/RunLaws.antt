@@ -5,7 +5,6 @@ use mathlib.Core.Bool.{Bool, true, false}
 use mathlib.Core.List.{List, [], _∷_, _++_}
 use lib.ListN.{length, getD, set, length-map, length-set}
 use lib.Seq.{sets}
-use lib.Dec.{ltb}
 use native.Mathlib.Omega.{arith}
 use borrow.Author.Tests.{ltb-true, ltb-false}
 use Rattle.base.specs.Choice.{if_then_else_}
@@ -31,9 +30,9 @@ use Rattle.network.proofs.PacketLaws.{air-length}
 use Rattle.network.proofs.Ranged.{Ranged, in-range-ranged}
 use Rattle.steps.specs.declared.Happened.{Happened}
 use Rattle.steps.specs.Happens.{happened, Happens}
-use Rattle.steps.specs.Lines.{packed, Fits}
+use Rattle.steps.specs.Lines.{packed, Fits, Packs}
 use Rattle.steps.specs.Ran.{Ran, told, ToldFit, RunEnds}
-use Rattle.steps.specs.Source.{Listed, Next}
+use Rattle.steps.specs.Source.{Listed, Next, goesOn, linePlace}
 use Rattle.steps.proofs.HappenLaws.{happens-after, happens-in-range, happens-line}
 use Rattle.steps.proofs.DrainLaws.{DrainSoFar, drain-none, drain-below, drain-lost, drain-more, drain-ends}
 
@@ -144,9 +143,8 @@ module _ {memory : Memory} {kinds operands lines : List ℕ} where
     unfolding eventAt
     event-is e l = rw (l .kind, l .first, l .second)
 
-    pub list-more : i < length kinds → (e : Event) → Listed kinds operands i e → (r : Happened) {v : ℕ} → (v ≡ packed (r .answer) (r .sent) (r .memory .air .count) (r .hops))
-        × Fits (r .answer) (r .sent) (r .memory .air .count) (r .hops) → Happens now (eventOf (e .kind) (e .a) (e .b)) r
-        → ListSoFar memory kinds operands lines (set lines′ i v) (r .memory) (i + 1)
+    pub list-more : i < length kinds → (e : Event) → Listed kinds operands i e → (r : Happened) {v : ℕ} → Packs v (r .answer) (r .sent) (r .memory .air .count) (r .hops)
+        → Happens now (eventOf (e .kind) (e .a) (e .b)) r → ListSoFar memory kinds operands lines (set lines′ i v) (r .memory) (i + 1)
     unfolding Ran
     list-more below e listed r {v} is so =
         let h = subst (λ z. Happens now z r) (event-is e listed) so in
@@ -178,12 +176,13 @@ pub record Turn (drains : Bool) (memory : Memory) (kinds operands lines lines′
 unfoldable pub mostEvents : (drains : Bool) → Memory → List ℕ → ℕ
 mostEvents drains memory kinds = if drains then 2 * turnLimit (memory .n) (memory .air .count) else length kinds
 
-pub place-most : (drains : Bool) {i at : ℕ} → at ≡ (if drains then 0 else i) → at ≤ i
+-- A line is told at the place of its event, or before it.
+pub place-most : (drains : Bool) {i at : ℕ} → at ≡ linePlace drains i → at ≤ i
 place-most true e = omega arith
 place-most false e = omega arith
 
 -- The next event of a list is one of them.
-pub turn-listed : (drains : Bool) (count i events : ℕ) → (if drains then ltb 0 count else ltb i events) ≡ true → drains ≡ false → i < events
+pub turn-listed : (drains : Bool) (count i events : ℕ) → goesOn drains i events count ≡ true → drains ≡ false → i < events
 turn-listed true count i events g d = clash refl d
 turn-listed false count i events g d = ltb-true i events g
 
@@ -215,14 +214,14 @@ module _ {memory : Memory} {kinds operands lines : List ℕ} where
   module _ {lines′ : List ℕ} {next : Memory} {packets : List Packet} {count lost i : ℕ} where
     -- There is a next event.
     pub turn-below : (drains : Bool) → Turn drains memory kinds operands lines lines′ next packets count lost i → Begins drains memory kinds lines
-        → (if drains then ltb 0 count else ltb i (length kinds)) ≡ true → i < mostEvents drains memory kinds
+        → goesOn drains i (length kinds) count ≡ true → i < mostEvents drains memory kinds
     unfolding mostEvents
     turn-below true t b g = drain-below (begins-invariant b) (t .so-far) (ltb-true 0 count g)
     turn-below false t b g = ltb-true i (length kinds) g
 
     -- Its line has a place.
     pub turn-room : (drains : Bool) → Turn drains memory kinds operands lines lines′ next packets count lost i → Begins drains memory kinds lines
-        → (if drains then ltb 0 count else ltb i (length kinds)) ≡ true → {at : ℕ} → at ≡ (if drains then 0 else i) → (at < length lines′) × (0 < length lines′)
+        → goesOn drains i (length kinds) count ≡ true → {at : ℕ} → at ≡ linePlace drains i → (at < length lines′) × (0 < length lines′)
     turn-room true t b g e = let l : length lines ≡ 1 = ap length (b .one-line refl) in (omega (arith, t .same-length), omega (arith, t .same-length))
     turn-room false t b g e = let l = ltb-true i (length kinds) g in (omega (arith, t .same-length, b .room), omega (arith, t .same-length, b .room))
 
@@ -233,8 +232,8 @@ module _ {memory : Memory} {kinds operands lines : List ℕ} where
 
     -- It happens.
     pub turn-more : (drains : Bool) → Turn drains memory kinds operands lines lines′ next packets count lost i → Begins drains memory kinds lines
-        → (if drains then ltb 0 count else ltb i (length kinds)) ≡ true → (e : Event) → Next drains kinds operands i (getD lines′ 0 0) e → {at : ℕ} → at ≡ (if drains then 0 else i)
-        → {next′ : Memory} {packets′ : List Packet} {count′ answer sent hop v : ℕ} → (v ≡ packed answer sent count′ hop) × Fits answer sent count′ hop → Shape next′ packets′
+        → goesOn drains i (length kinds) count ≡ true → (e : Event) → Next drains kinds operands i (getD lines′ 0 0) e → {at : ℕ} → at ≡ linePlace drains i
+        → {next′ : Memory} {packets′ : List Packet} {count′ answer sent hop v : ℕ} → Packs v answer sent count′ hop → Shape next′ packets′
         → Happens (airing next packets count) (eventOf (e .kind) (e .a) (e .b)) (happened (airing next′ packets′ count′) answer sent hop)
         → Turn drains memory kinds operands lines (set lines′ at v) next′ packets′ count′ (lost + e .losses) (i + 1)
     turn-more drains t b g e k {at} a {next′} {packets′} {count′} {answer} {sent} {hop} {v} is w so = record {
@@ -246,14 +245,14 @@ module _ {memory : Memory} {kinds operands lines : List ℕ} where
     }
       where
         rest : (drains : Bool) → Turn drains memory kinds operands lines lines′ next packets count lost i → Begins drains memory kinds lines
-            → (if drains then ltb 0 count else ltb i (length kinds)) ≡ true → Next drains kinds operands i (getD lines′ 0 0) e → at ≡ (if drains then 0 else i)
+            → goesOn drains i (length kinds) count ≡ true → Next drains kinds operands i (getD lines′ 0 0) e → at ≡ linePlace drains i
             → SoFar drains memory kinds operands lines (set lines′ at v) (airing next′ packets′ count′) (lost + e .losses) (i + 1)
         rest true t b g k a = rw a (drain-more (begins-invariant b) (t .so-far) (ltb-true 0 count g) (happened (airing next′ packets′ count′) answer sent hop) is e k so)
         rest false t b g k a = rw a (list-more (t .so-far) (ltb-true i (length kinds) g) e k (happened (airing next′ packets′ count′) answer sent hop) is so)
 
     -- There is no next event.
     pub turn-ends : (drains : Bool) → Turn drains memory kinds operands lines lines′ next packets count lost i → Begins drains memory kinds lines
-        → (if drains then ltb 0 count else ltb i (length kinds)) ≡ false → RunEnds drains memory kinds operands lines lines′ (record { memory = airing next packets count; events = i; losses = lost })
+        → goesOn drains i (length kinds) count ≡ false → RunEnds drains memory kinds operands lines lines′ (record { memory = airing next packets count; events = i; losses = lost })
     turn-ends true t b g = drain-ends (begins-invariant b) (t .so-far) (ltb-false 0 count g)
     turn-ends false t b g =
         let last : i ≡ length kinds = omega (arith, t .so-far .among, ltb-false i (length kinds) g) in

@@ -3,9 +3,7 @@ ghost use mathlib.Core.Path.{_≡_};
 ghost use mathlib.Core.Bool.{false};
 ghost use Prim.Native.Nat.{_+_, _*_, _<_};
 ghost use lib.ListN.{length};
-ghost use lib.Dec.{ltb};
-ghost use Rattle.base.specs.Choice.{if_then_else_};
-ghost use Rattle.steps.specs.Source.{Listed, Next};
+ghost use Rattle.steps.specs.Source.{Listed, Next, goesOn, linePlace};
 use crate::lines::answer_of;
 use draining::Event;
 use draining::packet_left;
@@ -40,7 +38,7 @@ pub fn next_event(drains: bool, kinds: &[u8], operands: &[u8], i: usize, last: u
 
 // Whether it has one: the list has more, or a packet is in the air.
 pub fn goes_on(drains: bool, i: usize, events: usize, count: u8) -> bool
-    ensures { λ r. ⌜ r ≡ (if drains then ltb 0 count else ltb i events) ⌝ }
+    ensures { λ r. ⌜ r ≡ goesOn drains i events count ⌝ }
 {
     if drains {
         packet_left(count)
@@ -51,7 +49,7 @@ pub fn goes_on(drains: bool, i: usize, events: usize, count: u8) -> bool
 
 // Where the line of event i is told. A run that drains the air keeps the last line alone.
 pub fn line_place(drains: bool, i: usize) -> usize
-    ensures { λ r. ⌜ r ≡ (if drains then 0 else i) ⌝ }
+    ensures { λ r. ⌜ r ≡ linePlace drains i ⌝ }
 {
     if drains { 0 } else { i }
 }

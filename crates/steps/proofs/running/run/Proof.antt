@@ -4,7 +4,7 @@ use mathlib.Core.Path.{_≡_, refl, sym, ap, subst, _∙_}
 use mathlib.Core.Logic.{_≢_, _⊎_, inl, inr}
 use mathlib.Core.Bool.{Bool, true, false, not, _&&_}
 use mathlib.Core.List.{List, map}
-use lib.Dec.{eqb, ltb}
+use lib.Dec.{eqb}
 use lib.ListN.{length, getD, set}
 use native.Mathlib.Omega.{arith}
 use borrow.Author.Needs.{needs}
@@ -24,7 +24,8 @@ use Rattle.network.proofs.Bounds.{memory-lengths, array-length}
 use Rattle.network.proofs.Ranged.{Ranged}
 use Rattle.decisions.specs.Tracing.{tells}
 use Rattle.station.proofs.Laws.{sent-few}
-use Rattle.steps.specs.Lines.{packed, Fits}
+use Rattle.steps.specs.Lines.{Packs}
+use Rattle.steps.specs.Source.{goesOn}
 use Rattle.steps.specs.Happens.{happened, Happens}
 use Rattle.steps.proofs.PacketMoves.{rest-down, rest-one-less, rest-few}
 use Rattle.steps.proofs.RunLaws.{airing, Shape, lengths-shape, shape-ranged, Turn, mostEvents, place-most, Begins, few-events}
@@ -202,7 +203,7 @@ begun c = record { shape = start-shape c; ranged = c .pre .0; short = c .pre .1 
 
 -- There is a next event: it is one of at most 138,272, its line has a place, and it loses one packet at most.
 abbrev GoesOn : Of tie.At-loop → Bool → Type 0
-GoesOn c b = (if begin c .args .drains then ltb 0 (c .loop .count) else ltb (c .loop .i) (length (begin c .args .kinds .now))) ≡ b
+GoesOn c b = goesOn (begin c .args .drains) (c .loop .i) (length (begin c .args .kinds .now)) (c .loop .count) ≡ b
 
 goes-on : (c : Of tie.Then1) → GoesOn (c .before .before) true
 goes-on c = sym (c .before .goes-on .ensures) ∙ c .if1 .taken
@@ -245,7 +246,7 @@ module _ (c : Of tie.After-class-of) where
       Turn (start .drains) (start .t1) (start .kinds .now) (start .operands .now) (start .lines .now) (set (now .lines) (lined-up c .line-place .result) v) next packets count
       (now .lost + given c .next-event .result .losses) (now .i + 1)
 
-  ended : {next : Memory} {packets : List Packet} {count answer sent hops v : ℕ} → (v ≡ packed answer sent count hops) × Fits answer sent count hops → Shape next packets
+  ended : {next : Memory} {packets : List Packet} {count answer sent hops v : ℕ} → Packs v answer sent count hops → Shape next packets
       → let e = given c .next-event .result in Happens (memory (turn c)) (eventOf (e .kind) (e .a) (e .b)) (happened (airing next packets count) answer sent hops)
       → Ended v next packets count
   ended line shape happens =

@@ -1,5 +1,4 @@
 -- `source::goes_on` meets its contract.
-use mathlib.Core.Path.{refl, _∙_}
 use borrow.Author.Needs.{needs}
 use Rattle.steps.proofs.source.goes_on.Statement.{statement}
 use Rattle.steps.proofs.source.goes_on.Tie as tie
