@@ -1457,11 +1457,17 @@ static uint64_t drain_singly(uint8_t *memory)
     return drained(deliveries, losses);
 }
 
+/* The most packets that can be delivered and lost, of p in the air of n stations. */
+static uint64_t turn_limit(uint64_t n, uint64_t p)
+{
+    return p + p * n * (n - 1) + p * n + (n - 1) * (n * (n - 1) + p + p * n);
+}
+
 /* Draining and the single calls give the same counts and the same bytes. */
 static void check_drain(int line, struct desk *d, uint64_t deliveries, uint64_t losses)
 {
     uint8_t *memory = copied(d->memory, LENT);
-    uint64_t p = memory[SRP_AIR_AT], n = memory[SRP_N_AT];
+    uint64_t most = turn_limit(memory[SRP_N_AT], memory[SRP_AIR_AT]);
     uint64_t r = call_on(d, (struct call){DRAIN, 0, 0}, LENT, OUT);
 
     check_eq(line, "drained", r, drained(deliveries, losses));
@@ -1469,7 +1475,7 @@ static void check_drain(int line, struct desk *d, uint64_t deliveries, uint64_t 
     check_eq(line, "the answer", SRP_SHORT_ANSWER(r), SRP_DONE);
     check_eq(line, "deliveries", SRP_DELIVERIES(r), deliveries);
     check_eq(line, "losses", SRP_LOSSES(r), losses);
-    check_eq(line, "within the bound", deliveries + losses <= p + p * n * (n - 1) + p * n + (n - 1) * (n * (n - 1) + p + p * n), true);
+    check_eq(line, "within the bound", deliveries + losses <= most && most <= SRP_MAX_TURNS, true);
     check_eq(line, "single calls", drain_singly(memory), r);
     check_same(line, "memory", d->memory, memory, LENT);
     check_eq(line, "the air", srp_air(d->memory, LENT), SRP_DONE);
@@ -1485,6 +1491,7 @@ static void test_drain(void)
 {
     struct desk *d = opened(2, 1);
 
+    CHECK_EQ(turn_limit(SRP_MAX_STATIONS, SRP_MAX_PACKETS), SRP_MAX_TURNS);
     check_drain(__LINE__, d, 0, 0);
     free(d);
     d = example_after(3);
