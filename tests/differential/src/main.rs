@@ -85,7 +85,7 @@ fn families() -> Vec<Family> {
             previews: &[6, 7, 12, 101, 102, 103, 104, 111, 112, 113, 114, 115, 121, 122, 123],
             drains: false,
         },
-        Family { name: "drains", cases: 12_000, check: Box::new(networks::check_drain), meets: &[0, 4, 7, 8], previews: &[], drains: true },
+        Family { name: "drains", cases: 8_000, check: Box::new(networks::check_drain), meets: &[0, 4, 7, 8], previews: &[], drains: true },
         Family {
             name: "memory-lengths",
             cases: 300,
