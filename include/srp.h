@@ -271,7 +271,7 @@ uint64_t srp_duplicate(uint8_t *memory, size_t length, size_t k);
  * is left as by these single calls. Refused: 1 (memory). Answer 0; two counts: the packets delivered
  * and the packets lost. With p packets in the air before, the two together are at most
  * p + p n (n - 1) + p n + (n - 1) (n (n - 1) + p + p n), which is SRP_MAX_TURNS for 16 stations and
- * 128 packets, and less for all others. examples/drain.c shows where a network settles.
+ * 128 packets, and no more for any other. examples/drain.c shows where a network settles.
  */
 uint64_t srp_drain(uint8_t *memory, size_t length);
 

@@ -1441,16 +1441,19 @@ static uint64_t drained(uint64_t deliveries, uint64_t losses)
     return deliveries << 16 | losses << 40;
 }
 
-/* Packet 0 by single calls, until none is left: how many were delivered and lost. */
+/* Packet 0 by single calls, until none is left or the bound is passed: how many were delivered and lost. */
 static uint64_t drain_singly(uint8_t *memory)
 {
     uint64_t deliveries = 0, losses = 0;
 
-    while (memory[SRP_AIR_AT] > 0) {
-        if (srp_deliver(memory, LENT, 0) == SRP_AIR_FULL) {
+    while (memory[SRP_AIR_AT] > 0 && deliveries + losses <= SRP_MAX_TURNS) {
+        uint64_t r = srp_deliver(memory, LENT, 0);
+
+        if (r == SRP_AIR_FULL) {
             CHECK_EQ(srp_lose(memory, LENT, 0), SRP_DONE);
             losses++;
         } else {
+            CHECK_EQ(SRP_REFUSED(r), false);
             deliveries++;
         }
     }
@@ -1505,7 +1508,7 @@ static void test_drain(void)
     free(d);
 }
 
-/* Sixteen stations, each linked to all others, of which eight seek at once: 120 packets in the air, and most requests are lost. */
+/* Sixteen stations, each linked to all others, of which eight seek at once: 120 packets in the air, and not half of what they lead to is lost. */
 static void test_drain_flood(void)
 {
     struct desk *d = opened(16, 1);

@@ -180,7 +180,7 @@ impl Desk {
             return Err(format!("Drain: answer {answer}, {drained:?} of at most {most}, {} packets left", self.network().in_air));
         }
         if singly && deliveries + losses > 0 {
-            let repeated = drain_singly(&mut self.copy);
+            let repeated = drain_singly(&mut self.copy, most);
             if repeated != drained {
                 return Err(format!("Drain: {drained:?}, and single calls make {repeated:?}"));
             }
@@ -279,19 +279,21 @@ fn turn_limit(n: usize, p: usize) -> usize {
     p + p * n * (n - 1) + p * n + (n - 1) * (n * (n - 1) + p + p * n)
 }
 
-/// Packet 0 by the library's Deliver, and by its Lose where that gives 7, until it gives 6.
-fn drain_singly(memory: &mut [u8]) -> Drained {
+/// Packet 0 by the library's Deliver, and by its Lose where that gives 7, until it gives another refusal; but for no more than so many packets.
+fn drain_singly(memory: &mut [u8], most: usize) -> Drained {
     let mut drained = Drained::default();
-    loop {
-        match answer_of(library::deliver(memory, 0)) {
-            6 => return drained,
-            7 => {
-                library::lose(memory, 0);
-                drained.losses += 1;
-            }
-            _ => drained.deliveries += 1,
+    for _ in 0..most {
+        let result = library::deliver(memory, 0);
+        if answer_of(result) == 7 {
+            library::lose(memory, 0);
+            drained.losses += 1;
+        } else if is_refused(result) {
+            break;
+        } else {
+            drained.deliveries += 1;
         }
     }
+    drained
 }
 
 /// A result read as an event's answer.

@@ -125,11 +125,13 @@ impl Network {
     pub fn drain(&mut self) -> Drained {
         let mut drained = Drained::default();
         while self.in_air > 0 {
-            if self.deliver(0) == Err(7) {
-                self.remove_packet(0);
-                drained.losses += 1;
-            } else {
-                drained.deliveries += 1;
+            match self.deliver(0) {
+                Ok(_) => drained.deliveries += 1,
+                Err(7) => {
+                    self.remove_packet(0);
+                    drained.losses += 1;
+                }
+                Err(number) => panic!("Deliver of packet 0 gives {number}"),
             }
         }
         drained
