@@ -122,29 +122,33 @@ enum srp_event_kind {
 #define SRP_MAX_TURNS 69136 /* of srp_drain */
 
 /* The memory: its length, where each part begins, and how many bytes an entry has. */
-#define SRP_LENGTH 31586
+#define SRP_LENGTH 31587
+#define SRP_VERSION 17 /* the number that byte 0 of the memory has; with another the bytes have no meaning */
 
-#define SRP_N_AT 0           /* n, 1 byte */
-#define SRP_NUMBERS_AT 1     /* 16 last request numbers */
-#define SRP_SOUGHT_AT 65     /* 16 destinations last sought, 1 byte each */
-#define SRP_ACTIVE_AT 81     /* 16 flags: the station is active */
-#define SRP_LINKS_AT 97      /* 256 flags: the link is up */
-#define SRP_LABELS_AT 353    /* 256 labels */
-#define SRP_ROWS_AT 4449     /* 256 rows */
-#define SRP_RECORDS_AT 22113 /* 256 records */
-#define SRP_AIR_AT 28001     /* the number of packets in the air, 1 byte */
-#define SRP_PACKETS_AT 28002 /* 128 packets */
+#define SRP_VERSION_AT 0     /* SRP_VERSION, 1 byte */
+#define SRP_N_AT 1           /* n, 1 byte */
+#define SRP_STATIONS_AT 2    /* 16 entries: what each station keeps */
+#define SRP_LINKS_AT 98      /* 256 flags: the link is up */
+#define SRP_LABELS_AT 354    /* 256 labels */
+#define SRP_ROWS_AT 4450     /* 256 rows */
+#define SRP_RECORDS_AT 22114 /* 256 records */
+#define SRP_AIR_AT 28002     /* the number of packets in the air, 1 byte */
+#define SRP_PACKETS_AT 28003 /* 128 packets */
 
-#define SRP_NUMBER_BYTES 4
+#define SRP_STATION_BYTES 6
 #define SRP_LABEL_BYTES 16
 #define SRP_ENTRY_BYTES 17
 #define SRP_ROW_BYTES 69
 #define SRP_RECORD_BYTES 23
 #define SRP_PACKET_BYTES 28
-#define SRP_STATION_BYTES 6
 #define SRP_PREVIEW_BYTES 87
 
-/* A label: where its fields stand from its first byte on. */
+/* What a station keeps of its own searches: where its fields stand from its first byte on. */
+#define SRP_STATION_NUMBER 0 /* the last request number, 4 bytes */
+#define SRP_STATION_SOUGHT 4 /* the destination last sought */
+#define SRP_STATION_ACTIVE 5 /* a flag: the station is active */
+
+/* A label. */
 #define SRP_LABEL_S 0 /* 8 bytes */
 #define SRP_LABEL_M 8 /* 4 bytes */
 #define SRP_LABEL_D 12 /* 4 bytes */
@@ -175,11 +179,6 @@ enum srp_event_kind {
 #define SRP_PACKET_RESET 25      /* request, a flag; else 0 */
 #define SRP_PACKET_MASK 26       /* error; else 0; 2 bytes, weight 2^t for destination t */
 
-/* What srp_station shows. */
-#define SRP_STATION_NUMBER 0 /* the last request number, 4 bytes */
-#define SRP_STATION_SOUGHT 4 /* the destination last sought */
-#define SRP_STATION_ACTIVE 5 /* 1 if active, else 0 */
-
 /* What srp_preview shows. */
 #define SRP_PREVIEW_LABEL 0 /* a label */
 #define SRP_PREVIEW_ROW 16  /* a row */
@@ -187,7 +186,7 @@ enum srp_event_kind {
 
 /* Where the part of station i, of station i for station t, and of packet k stands. */
 #define SRP_PLACE(i, t) (SRP_MAX_STATIONS * (size_t)(i) + (size_t)(t))
-#define SRP_NUMBER_AT(i) (SRP_NUMBERS_AT + SRP_NUMBER_BYTES * (size_t)(i))
+#define SRP_STATION_AT(i) (SRP_STATIONS_AT + SRP_STATION_BYTES * (size_t)(i))
 #define SRP_LINK_AT(lower, higher) (SRP_LINKS_AT + SRP_PLACE(lower, higher))
 #define SRP_LABEL_AT(i, t) (SRP_LABELS_AT + SRP_LABEL_BYTES * SRP_PLACE(i, t))
 #define SRP_ROW_AT(i, t) (SRP_ROWS_AT + SRP_ROW_BYTES * SRP_PLACE(i, t))

@@ -42,11 +42,13 @@ struct build {
     reading *read_script;
     writing *write_script;
     call_alone *drain; /* NULL in a build that has none */
+
+    /* What each timed call starts from, in the build's own layout, which may be an older one. */
+    uint8_t network[SRP_LENGTH]; /* requests in the air, */
+    uint8_t routes[SRP_LENGTH];  /* routes and an empty air, */
+    uint8_t broken[SRP_LENGTH];  /* or the errors of a link that went down */
 };
 
-static uint8_t network[SRP_LENGTH]; /* what each timed call starts from: requests in the air, */
-static uint8_t routes[SRP_LENGTH];  /* routes and an empty air, */
-static uint8_t broken[SRP_LENGTH];  /* or the errors of a link that went down */
 static uint8_t events[11 + 3 * EVENTS] = {STATIONS, EVENTS & 255, EVENTS >> 8, 1}; /* a script */
 static const char *packets_script, *links_script;
 
@@ -61,20 +63,20 @@ static void *found(void *library, const char *name) {
     return symbol;
 }
 
-static struct build loaded(const char *path, const char *program) {
+static void load(struct build *b, const char *path, const char *program) {
     void *library = dlopen(path, RTLD_NOW | RTLD_LOCAL);
     if (!library) fail(dlerror());
-    return (struct build){program,
-                          found(library, "srp_open"),
-                          found(library, "srp_up"),
-                          found(library, "srp_down"),
-                          found(library, "srp_solicit"),
-                          found(library, "srp_deliver"),
-                          found(library, "srp_lose"),
-                          found(library, "srp_duplicate"),
-                          found(library, "srp_read_script"),
-                          found(library, "srp_write_script"),
-                          dlsym(library, "srp_drain")};
+    b->program = program;
+    b->open = found(library, "srp_open");
+    b->up = found(library, "srp_up");
+    b->down = found(library, "srp_down");
+    b->solicit = found(library, "srp_solicit");
+    b->deliver = found(library, "srp_deliver");
+    b->lose = found(library, "srp_lose");
+    b->duplicate = found(library, "srp_duplicate");
+    b->read_script = found(library, "srp_read_script");
+    b->write_script = found(library, "srp_write_script");
+    b->drain = dlsym(library, "srp_drain");
 }
 
 static double now(void) {
@@ -84,28 +86,28 @@ static double now(void) {
 }
 
 /* Sixteen stations, every link up, and the requests of some in the air. */
-static void fill_network(const struct build *b) {
-    if (SRP_REFUSED(b->open(network, SRP_LENGTH, STATIONS, 1))) fail("open");
+static void fill_network(struct build *b) {
+    if (SRP_REFUSED(b->open(b->network, SRP_LENGTH, STATIONS, 1))) fail("open");
     for (size_t i = 0; i < STATIONS; i++)
         for (size_t j = i + 1; j < STATIONS; j++)
-            if (SRP_REFUSED(b->up(network, SRP_LENGTH, i, j))) fail("up");
+            if (SRP_REFUSED(b->up(b->network, SRP_LENGTH, i, j))) fail("up");
     for (size_t i = 0; i < SEEKERS; i++)
-        if (SRP_REFUSED(b->solicit(network, SRP_LENGTH, i, STATIONS - 1))) fail("solicit");
+        if (SRP_REFUSED(b->solicit(b->network, SRP_LENGTH, i, STATIONS - 1))) fail("solicit");
 }
 
 /* Every station of a ring with chords sought 0, and all was delivered; in `broken` 0 lost its neighbour 1, and the errors are in the air. */
-static void fill_routes(const struct build *b) {
-    if (SRP_REFUSED(b->open(routes, SRP_LENGTH, STATIONS, 1))) fail("open");
+static void fill_routes(struct build *b) {
+    if (SRP_REFUSED(b->open(b->routes, SRP_LENGTH, STATIONS, 1))) fail("open");
     for (size_t i = 0; i < STATIONS; i++) {
-        b->up(routes, SRP_LENGTH, i, (i + 1) % STATIONS);
-        b->up(routes, SRP_LENGTH, i, (i + 3) % STATIONS);
+        b->up(b->routes, SRP_LENGTH, i, (i + 1) % STATIONS);
+        b->up(b->routes, SRP_LENGTH, i, (i + 3) % STATIONS);
     }
     for (size_t i = 1; i < STATIONS; i++) {
-        if (SRP_REFUSED(b->solicit(routes, SRP_LENGTH, i, 0))) fail("solicit");
-        while (!SRP_REFUSED(b->deliver(routes, SRP_LENGTH, 0))) {}
+        if (SRP_REFUSED(b->solicit(b->routes, SRP_LENGTH, i, 0))) fail("solicit");
+        while (!SRP_REFUSED(b->deliver(b->routes, SRP_LENGTH, 0))) {}
     }
-    memcpy(broken, routes, SRP_LENGTH);
-    if (SRP_COUNT(b->down(broken, SRP_LENGTH, 0, 1)) == 0) fail("down: no error sent");
+    memcpy(b->broken, b->routes, SRP_LENGTH);
+    if (SRP_COUNT(b->down(b->broken, SRP_LENGTH, 0, 1)) == 0) fail("down: no error sent");
 }
 
 static void put_event(size_t index, size_t kind, size_t a, size_t b) {
@@ -143,12 +145,12 @@ static double timed_call(call_on_packet *call, const uint8_t *from, size_t k) {
     return (now() - began) / CALLS;
 }
 
-static double broadcast_on(const struct build *b) { return timed_call(b->deliver, network, 0); }
-static double answered(const struct build *b) { return timed_call(b->deliver, network, STATIONS - 2); }
-static double first_lost(const struct build *b) { return timed_call(b->lose, network, 0); }
-static double last_lost(const struct build *b) { return timed_call(b->lose, network, SEEKERS * (STATIONS - 1) - 1); }
-static double first_doubled(const struct build *b) { return timed_call(b->duplicate, network, 0); }
-static double error_delivered(const struct build *b) { return timed_call(b->deliver, broken, 0); }
+static double broadcast_on(const struct build *b) { return timed_call(b->deliver, b->network, 0); }
+static double answered(const struct build *b) { return timed_call(b->deliver, b->network, STATIONS - 2); }
+static double first_lost(const struct build *b) { return timed_call(b->lose, b->network, 0); }
+static double last_lost(const struct build *b) { return timed_call(b->lose, b->network, SEEKERS * (STATIONS - 1) - 1); }
+static double first_doubled(const struct build *b) { return timed_call(b->duplicate, b->network, 0); }
+static double error_delivered(const struct build *b) { return timed_call(b->deliver, b->broken, 0); }
 
 /* Nanoseconds for each packet that is delivered or lost where 90 are in the air. */
 static double drained(const struct build *b) {
@@ -156,7 +158,7 @@ static double drained(const struct build *b) {
     uint64_t turns = 0;
     double began = now();
     for (int i = 0; i < CALLS / 10; i++) {
-        memcpy(memory, network, SRP_LENGTH);
+        memcpy(memory, b->network, SRP_LENGTH);
         uint64_t r = b->drain(memory, SRP_LENGTH);
         if (SRP_REFUSED(r)) fail("drain");
         turns += SRP_DELIVERIES(r) + SRP_LOSSES(r);
@@ -168,7 +170,7 @@ static double went_down(const struct build *b) {
     static uint8_t memory[SRP_LENGTH];
     double began = now();
     for (int i = 0; i < CALLS; i++) {
-        memcpy(memory, routes, SRP_LENGTH);
+        memcpy(memory, b->routes, SRP_LENGTH);
         if (SRP_REFUSED(b->down(memory, SRP_LENGTH, 0, 1))) fail("down");
     }
     return (now() - began) / CALLS;
@@ -230,10 +232,15 @@ static void row(const char *what, double (*timed)(const struct build *), const s
 
 int main(int count, char **arguments) {
     if (count != 7) fail("usage: compare LIBRARY PROGRAM OTHER_LIBRARY OTHER_PROGRAM PACKETS LINKS");
-    struct build this = loaded(arguments[1], arguments[2]), other = loaded(arguments[3], arguments[4]);
+    /* Both on a page's first byte: how fast memory is copied hangs on how far the two places are apart, modulo 4,096. */
+    static _Alignas(4096) struct build this, other;
+    load(&this, arguments[1], arguments[2]);
+    load(&other, arguments[3], arguments[4]);
     packets_script = arguments[5], links_script = arguments[6];
     fill_network(&this);
     fill_routes(&this);
+    fill_network(&other);
+    fill_routes(&other);
     write_script(links_script, 1);
     write_script(packets_script, 0);
     row("`srp_deliver` of a request, broadcast on", broadcast_on, &this, &other);

@@ -1,6 +1,6 @@
 /*
  * A client in C of the entry points in include/srp.h. It holds them to 01 and to docs/LAYOUT.md: 01's example, the search of a row,
- * previews, New label, scripts, refusals, memory that was damaged, and the places that are free.
+ * previews, New label, scripts, refusals, memory of another version or damaged, and the places that are free.
  *
  *     client [STEP]     damages every STEP-th byte of the memory in turn; 1 if not given
  *
@@ -278,10 +278,12 @@ static bool in_range(const uint8_t *bytes)
 {
     unsigned n = bytes[SRP_N_AT], air = bytes[SRP_AIR_AT];
 
-    if (n < SRP_MIN_STATIONS || n > SRP_MAX_STATIONS || air > SRP_MAX_PACKETS)
+    if (bytes[SRP_VERSION_AT] != SRP_VERSION || n < SRP_MIN_STATIONS || n > SRP_MAX_STATIONS || air > SRP_MAX_PACKETS)
         return false;
     for (unsigned i = 0; i < n; i++) {
-        if (bytes[SRP_SOUGHT_AT + i] >= n || !is_flag(bytes[SRP_ACTIVE_AT + i]))
+        const uint8_t *station = bytes + SRP_STATION_AT(i);
+
+        if (station[SRP_STATION_SOUGHT] >= n || !is_flag(station[SRP_STATION_ACTIVE]))
             return false;
         for (unsigned t = 0; t < n; t++)
             if (!is_pair(bytes, n, i, t))
@@ -326,11 +328,8 @@ static void mark(const uint8_t *bytes, uint8_t *map)
 
     memset(map, IN_USE, SRP_LENGTH);
     for (unsigned i = 0; i < SRP_MAX_STATIONS; i++) {
-        if (i >= n) {
-            memset(map + SRP_NUMBER_AT(i), OF_NO_STATION, SRP_NUMBER_BYTES);
-            map[SRP_SOUGHT_AT + i] = OF_NO_STATION;
-            map[SRP_ACTIVE_AT + i] = OF_NO_STATION;
-        }
+        if (i >= n)
+            memset(map + SRP_STATION_AT(i), OF_NO_STATION, SRP_STATION_BYTES);
         for (unsigned t = 0; t < SRP_MAX_STATIONS; t++)
             mark_pair(bytes, map, i, t);
     }
@@ -342,8 +341,11 @@ static void settle(uint8_t *bytes)
 {
     unsigned air = bytes[SRP_AIR_AT];
 
-    for (unsigned i = 0; i < SRP_MAX_STATIONS; i++)
-        bytes[SRP_ACTIVE_AT + i] = bytes[SRP_ACTIVE_AT + i] == 1;
+    for (unsigned i = 0; i < SRP_MAX_STATIONS; i++) {
+        uint8_t *active = bytes + SRP_STATION_AT(i) + SRP_STATION_ACTIVE;
+
+        *active = *active == 1;
+    }
     for (unsigned place = 0; place < SRP_PLACE(SRP_MAX_STATIONS, 0); place++) {
         uint8_t *row = bytes + SRP_ROW_AT(0, place);
         uint8_t *passed = bytes + SRP_RECORD_AT(0, place) + SRP_RECORD_PASSED;
@@ -361,6 +363,7 @@ static void settle(uint8_t *bytes)
 static void fresh(uint8_t *bytes, unsigned n, uint64_t start)
 {
     memset(bytes, 0, SRP_LENGTH);
+    bytes[SRP_VERSION_AT] = SRP_VERSION;
     bytes[SRP_N_AT] = (uint8_t)n;
     for (unsigned place = 0; place < SRP_PLACE(SRP_MAX_STATIONS, 0); place++) {
         put_label(bytes + SRP_LABEL_AT(0, place), 0, 1, 1);
@@ -489,16 +492,6 @@ static void check_pair_shown(struct desk *d, unsigned i, unsigned t)
     CHECK_EQ(srp_link(d->memory, LENT, i, t), result(SRP_DONE, d->memory[i < t ? SRP_LINK_AT(i, t) : SRP_LINK_AT(t, i)]));
 }
 
-static void check_station_shown(struct desk *d, unsigned i)
-{
-    CHECK_EQ(call_on(d, (struct call){STATION, i, 0}, LENT, OUT), result(SRP_DONE, SRP_STATION_BYTES));
-    CHECK_EQ(srp_read4(d->out + SRP_STATION_NUMBER), srp_read4(d->memory + SRP_NUMBER_AT(i)));
-    CHECK_EQ(d->out[SRP_STATION_SOUGHT], d->memory[SRP_SOUGHT_AT + i]);
-    CHECK_EQ(d->out[SRP_STATION_ACTIVE], d->memory[SRP_ACTIVE_AT + i]);
-    CHECK_SAME(d->out + SRP_STATION_BYTES, d->out_before + SRP_STATION_BYTES, OUT - SRP_STATION_BYTES);
-    CHECK_SAME(d->memory, d->before, LENT);
-}
-
 static void check_shown(struct desk *d)
 {
     unsigned n = d->memory[SRP_N_AT], air = d->memory[SRP_AIR_AT];
@@ -506,7 +499,7 @@ static void check_shown(struct desk *d)
     CHECK_EQ(srp_size(d->memory, LENT), result(SRP_DONE, n));
     CHECK_EQ(srp_air(d->memory, LENT), result(SRP_DONE, air));
     for (unsigned i = 0; i < n; i++) {
-        check_station_shown(d, i);
+        check_bytes_shown(d, (struct call){STATION, i, 0}, SRP_STATION_AT(i));
         for (unsigned t = 0; t < n; t++)
             check_pair_shown(d, i, t);
     }
@@ -1556,15 +1549,15 @@ static void test_numbers_used_up(void)
 {
     struct desk *d = example_after(3);
 
-    put(d->memory + SRP_NUMBER_AT(0), 4, UINT32_MAX);
-    put(d->memory + SRP_NUMBER_AT(2), 4, UINT32_MAX);
+    put(d->memory + SRP_STATION_AT(0) + SRP_STATION_NUMBER, 4, UINT32_MAX);
+    put(d->memory + SRP_STATION_AT(2) + SRP_STATION_NUMBER, 4, UINT32_MAX);
     CHECK_REFUSED(d, SRP_NUMBERS_USED_UP, SRP_EVENT_SOLICIT, 0, 1);
     CHECK_REFUSED(d, SRP_IS_ACTIVE, SRP_EVENT_SOLICIT, 2, 1);
     CHECK_REFUSED(d, SRP_NO_STATION, SRP_EVENT_SOLICIT, 0, 3);
     fill_air(d, SRP_MAX_PACKETS);
     CHECK_REFUSED(d, SRP_NUMBERS_USED_UP, SRP_EVENT_SOLICIT, 0, 1);
     CHECK_EQ(call_on(d, (struct call){SRP_EVENT_LOSE, 0, 0}, LENT, OUT), SRP_DONE);
-    put(d->memory + SRP_NUMBER_AT(0), 4, UINT32_MAX - 1);
+    put(d->memory + SRP_STATION_AT(0) + SRP_STATION_NUMBER, 4, UINT32_MAX - 1);
     CHECK_EQ(call_on(d, (struct call){SRP_EVENT_SOLICIT, 0, 2}, LENT, OUT), result(SRP_DONE, 1));
     CHECK_STATION(d, 0, UINT32_MAX, 2, 1);
     CHECK_EQ(srp_read4(d->memory + SRP_PACKET_AT(SRP_MAX_PACKETS - 1) + SRP_PACKET_NUMBER), UINT32_MAX);
@@ -1656,12 +1649,17 @@ struct wrong_byte {
 
 /* Bytes that have no meaning. Packet 0 is an error, packet 1 a request, packet 4 a reply. */
 static const struct wrong_byte meaningless[] = {
+    {SRP_VERSION_AT, 0},
+    {SRP_VERSION_AT, 4}, /* as many stations as there are */
+    {SRP_VERSION_AT, 16},
+    {SRP_VERSION_AT, 18},
+    {SRP_VERSION_AT, 255},
     {SRP_N_AT, 17},
     {SRP_N_AT, 255},
     {SRP_AIR_AT, 129},
     {SRP_AIR_AT, 255},
-    {SRP_ACTIVE_AT + 0, 2},
-    {SRP_ACTIVE_AT + 3, 255},
+    {SRP_STATION_AT(0) + SRP_STATION_ACTIVE, 2},
+    {SRP_STATION_AT(3) + SRP_STATION_ACTIVE, 255},
     {SRP_LINK_AT(0, 1), 2},
     {SRP_LINK_AT(2, 3), 128},
     {SRP_RECORD_AT(0, 1) + SRP_RECORD_PASSED, 2},
@@ -1687,7 +1685,7 @@ static const struct wrong_byte out_of_range[] = {
     {SRP_N_AT, 0},
     {SRP_N_AT, 1},
     {SRP_N_AT, 3},
-    {SRP_SOUGHT_AT + 1, 4},
+    {SRP_STATION_AT(1) + SRP_STATION_SOUGHT, 4},
     {SRP_LABEL_AT(1, 2) + SRP_LABEL_M, 0},
     {SRP_LABEL_AT(1, 2) + SRP_LABEL_S, 1},
     {SRP_LABEL_AT(3, 0) + SRP_LABEL_M, 3},
@@ -1741,6 +1739,29 @@ static void check_wrong_bytes(const struct wrong_byte *bytes, size_t count)
     free(d);
 }
 
+/* Each first byte but the version is turned down; with the version put back the network is there again. Open writes it over any other. */
+static void test_version(void)
+{
+    struct desk *d = opened(3, 1);
+    uint8_t *network = copied(d->memory, LENT);
+
+    CHECK_EQ(d->memory[SRP_VERSION_AT], SRP_VERSION);
+    CHECK_EQ(d->memory[SRP_N_AT], 3);
+    for (unsigned version = 0; version < 256; version++) {
+        d->memory[SRP_VERSION_AT] = (uint8_t)version;
+        CHECK_EQ(srp_size(d->memory, LENT), version == SRP_VERSION ? result(SRP_DONE, 3) : SRP_OUT_OF_RANGE);
+        CHECK_EQ(d->memory[SRP_VERSION_AT], version);
+        d->memory[SRP_VERSION_AT] = SRP_VERSION;
+        CHECK_EQ(srp_size(d->memory, LENT), result(SRP_DONE, 3));
+        CHECK_SAME(d->memory, network, LENT);
+        d->memory[SRP_VERSION_AT] = (uint8_t)version;
+        CHECK_EQ(call_on(d, (struct call){OPEN, 3, 1}, LENT, OUT), SRP_DONE);
+        CHECK_SAME(d->memory, network, LENT);
+    }
+    free(network);
+    free(d);
+}
+
 /* A row of a station for itself that would be in range for another. */
 static void test_own_row(void)
 {
@@ -1760,7 +1781,7 @@ static void test_wrong_bytes(void)
     check_wrong_bytes(out_of_range, sizeof out_of_range / sizeof *out_of_range);
 }
 
-/* Random bytes: all of them, and with numbers of stations and packets that are in range. */
+/* Random bytes: all of them, most with the version, and half with numbers of stations and packets that are in range. */
 static void test_random_bytes(void)
 {
     struct desk *d = opened(2, 1);
@@ -1769,6 +1790,8 @@ static void test_random_bytes(void)
     for (unsigned trial = 0; trial < 50; trial++) {
         for (size_t at = 0; at < LENT; at++)
             d->memory[at] = (uint8_t)(next_random(&state) >> 32);
+        if (trial % 5)
+            d->memory[SRP_VERSION_AT] = SRP_VERSION;
         if (trial % 2) {
             d->memory[SRP_N_AT] = (uint8_t)(2 + trial % 15);
             d->memory[SRP_AIR_AT] = (uint8_t)trial;
@@ -1963,8 +1986,8 @@ static void test_free_places(void)
 static void test_free_flags(void)
 {
     static const size_t flags[] = {
-        SRP_ACTIVE_AT + 4,
-        SRP_ACTIVE_AT + 15,
+        SRP_STATION_AT(4) + SRP_STATION_ACTIVE,
+        SRP_STATION_AT(15) + SRP_STATION_ACTIVE,
         SRP_LINK_AT(0, 4),
         SRP_LINK_AT(1, 0),
         SRP_LINK_AT(2, 2),
@@ -2069,6 +2092,7 @@ int main(int argc, char **argv)
     test_no_room();
     test_short_slices();
     test_open_refused();
+    test_version();
     test_wrong_bytes();
     test_own_row();
     test_random_bytes();

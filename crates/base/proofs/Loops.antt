@@ -1,6 +1,6 @@
 -- What a loop over 0 .. c knows: laws of tests and lists that grow by one number at a time.
 use Prim.Native.Nat.{ℕ, zero, suc, _+_, _-_, _*_, _/_, _%_, _≤_, _<_}
-use mathlib.Core.Path.{_≡_, refl, sym, ap, ap₂, _∙_}
+use mathlib.Core.Path.{_≡_, refl, sym, ap, ap₂, subst, _∙_}
 use mathlib.Core.Logic.{_≢_}
 use mathlib.Core.Bool.{Bool, true, false, not, _&&_, _||_, and-true, and-assoc}
 use mathlib.Core.List.{List, [], _∷_, _++_, map, tail, append-nil, map-append, append-assoc}
@@ -13,7 +13,7 @@ use borrow.Author.Tests.{lt-ltb, le-ltb, ltb-true, ltb-false, eqb-true, eqb-fals
 use Rattle.base.specs.Choice.{if_then_else_}
 use Rattle.base.specs.Lists.{allBelow, below, allIn, someIn, keep, isEmpty, tabulate, indexOf, distinct, removeAt, removed}
 use Rattle.base.proofs.Booleans.{clash, passes, iff, choose, Trichotomy, less, equal, more, trichotomy}
-use Rattle.base.proofs.Lists.{all-below, all-below-at, empty-length, distinct-more}
+use Rattle.base.proofs.Lists.{all-below, all-below-at, empty-length, map-set, distinct-more}
 
 -- A loop that ends early at the first number below n that fails: what it knows before its first turn, how it goes on, how it ends early,
 -- and how it comes to its end.
@@ -198,6 +198,15 @@ pub map-tabulate : {A B : Type 0} (g : A → B) (c : ℕ) (f : ℕ → A) → ma
 unfolding tabulate
 map-tabulate g zero f = refl
 map-tabulate {A} {B} g (suc c) f = map-append g (tabulate c f) (f c ∷ []) ∙ ap (λ (z : List B). z ++ (g (f c) ∷ [])) (map-tabulate g c f)
+
+-- A place of the changed values, within the list or past its end.
+pub tabulate-part : {A B : Type 0} (g : A → B) (c : ℕ) (f : ℕ → A) (k : ℕ) (d : A) → getD (tabulate c (λ j. g (f j))) k (g d) ≡ g (getD (tabulate c f) k d)
+tabulate-part g c f k d = ap (λ l. getD l k (g d)) (sym (map-tabulate g c f)) ∙ List·getD-map g (tabulate c f) k d
+
+-- An array that a loop fills, each element read by g.
+pub filled-map-more : {A B : Type 0} (g : B → A) (c : ℕ) (f : ℕ → A) (l : List B) (i : ℕ) (x : B) → Filled c f (map g l) i → i < c → g x ≡ f i
+    → Filled c f (map g (set l i x)) (i + 1)
+filled-map-more {A} g c f l i x h m e = subst (λ (z : List A). Filled c f z (i + 1)) (sym (map-set g l i x)) (filled-more c f (map g l) i (g x) h m e)
 
 -- A list, each element changed, is the changed values at its places.
 pub tabulate-map : {A B : Type 0} (f : A → B) (l : List A) (c : ℕ) (d : A) → length l ≡ c → tabulate c (λ k. f (getD l k d)) ≡ map f l

@@ -1,15 +1,18 @@
 -- Laws of numbers in bytes, and of bytes put into an array.
 use Prim.Native.Nat.{ℕ, zero, suc, _+_, _*_, _/_, _%_, _^_, _≤_, _<_}
 use mathlib.Core.Path.{_≡_, refl, sym, ap, _∙_}
+use mathlib.Core.Logic.{_≢_}
+use mathlib.Core.Bool.{true}
 use mathlib.Core.List.{List, [], _∷_, _++_}
-use lib.ListN.{length, getD, take, drop, set, length-append}
-use lib.Seq.{sets, sets-eq, set-comm, take-at}
-use native.Mathlib.Nat.{pow-suc, add-zero, zero-add}
+use lib.ListN.{length, getD, take, drop, set, length-append, length-drop}
+use lib.Seq.{sets, sets-eq, set-comm, take-at, take-add, length-take-le, drop-drop, drop-cons}
+use native.Mathlib.Nat.{pow-suc, pow-succ', add-zero, zero-add, suc-add, mul-add, mul-assoc, div-one, div-div-eq-div-mul}
 use native.Mathlib.Omega.{arith}
+use borrow.Author.Tests.{eqb-true, ne-eqb}
 use mir.Syntax.{w8}
 use mir.Val.{Fits}
 use Rattle.base.specs.Results.{Result, refused, accepted, mapped}
-use Rattle.codec.specs.Bytes.{littleEndian, number, over, putInto, Puts, AllBytes}
+use Rattle.codec.specs.Bytes.{isWidth, littleEndian, number, byteAt, numberAt, over, putInto, Puts, AllBytes}
 
 -- Elements put one list after the other are put as one list.
 pub sets-append : {A : Type 0} (l : List A) (at : ℕ) (xs ys : List A) → sets (sets l at xs) (at + length xs) ys ≡ sets l at (xs ++ ys)
@@ -80,6 +83,41 @@ pub number-below : (bytes : List ℕ) → AllBytes bytes → number bytes < 256 
 unfolding number AllBytes
 number-below [] h = omega arith
 number-below (x ∷ bytes) h = omega (arith, pow-suc 256 (length bytes), number-below bytes (h .1))
+
+-- A number in two parts: the higher one counts 256 ^ w times for w bytes of the lower one.
+pub little-parts : (w u v : ℕ) → littleEndian (w + u) v ≡ littleEndian w v ++ littleEndian u (v / 256 ^ w)
+unfolding littleEndian
+little-parts zero u v = rw (zero-add, div-one)
+little-parts (suc w) u v =
+    let far : v / 256 / 256 ^ w ≡ v / 256 ^ suc w = rw (pow-succ' 256 w) (div-div-eq-div-mul v 256 (256 ^ w)) in
+    rw (suc-add, little-parts w u (v / 256), far)
+
+pub put-parts : (out : List ℕ) (at w u v : ℕ) → sets (sets out at (littleEndian w v)) (at + w) (littleEndian u (v / 256 ^ w)) ≡ sets out at (littleEndian (w + u) v)
+put-parts out at w u v =
+    sets-next out at (at + w) (littleEndian w v) (littleEndian u (v / 256 ^ w)) (ap (λ k. at + k) (sym (little-length w v)))
+    ∙ ap (sets out at) (sym (little-parts w u v))
+
+number-append : (xs ys : List ℕ) → number (xs ++ ys) ≡ number xs + 256 ^ length xs * number ys
+unfolding number
+number-append [] ys = omega arith
+number-append (x ∷ xs) ys =
+    rw (number-append xs ys, pow-succ' 256 (length xs))
+    (omega (arith, mul-add 256 (number xs) (256 ^ length xs * number ys), mul-assoc 256 (256 ^ length xs) (number ys)))
+
+pub number-parts : (w u : ℕ) (bytes : List ℕ) (at : ℕ) → at + w ≤ length bytes
+    → numberAt (w + u) bytes at ≡ numberAt w bytes at + 256 ^ w * numberAt u bytes (at + w)
+number-parts w u bytes at h =
+    let long : length (take w (drop at bytes)) ≡ w = length-take-le w (drop at bytes) (omega (arith, length-drop at bytes)) in
+    ap number (take-add w u (drop at bytes)) ∙ number-append (take w (drop at bytes)) (take u (drop w (drop at bytes)))
+    ∙ rw (long, drop-drop w at bytes)
+
+-- A width that is not 1, 2 or 4 is 8.
+pub width-eight : (w : ℕ) → isWidth w ≡ true → w ≢ 1 → w ≢ 2 → w ≢ 4 → w ≡ 8
+width-eight w h one two four = eqb-true w 8 (rw (ne-eqb w 1 one, ne-eqb w 2 two, ne-eqb w 4 four) at h)
+
+pub number-one : (bytes : List ℕ) (at : ℕ) → at < length bytes → numberAt 1 bytes at ≡ byteAt bytes at
+unfolding number
+number-one bytes at h = rw (drop-cons bytes at 0 h) (omega arith)
 
 -- Numbers of 8 bits are bytes, and what is made of bytes is bytes.
 pub all-bytes : (l : List ℕ) → ((i : ℕ) → Fits w8 (getD l i 0)) → AllBytes l

@@ -1,9 +1,15 @@
 -- Numbers in bytes, "little-endian" (01, "Scripts and the printout").
 use Prim.Native.Nat.{ℕ, zero, suc, _+_, _*_, _/_, _%_, _<_}
 use mathlib.Core.Path.{_≡_}
+use mathlib.Core.Bool.{Bool, _||_}
 use mathlib.Core.List.{List, [], _∷_, _++_}
 use lib.ListN.{length, getD, take, drop}
+use lib.Dec.{eqb}
 use Rattle.base.specs.Results.{Result, refused, accepted, mapped}
+
+-- A number has 1, 2, 4 or 8 bytes.
+abbrev pub isWidth : ℕ → Bool
+isWidth width = eqb width 1 || eqb width 2 || eqb width 4 || eqb width 8
 
 -- The bytes of v, the lowest first.
 unfoldable pub littleEndian : (width v : ℕ) → List ℕ

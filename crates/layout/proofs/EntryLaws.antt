@@ -1,112 +1,127 @@
--- Laws of labels, rows, records and packets in bytes: their widths, and that their parts put one after the other are the whole.
-use Prim.Native.Nat.{ℕ, _+_, _≤_}
-use mathlib.Core.Path.{_≡_, refl, ap, _∙_}
-use mathlib.Core.Bool.{Bool}
-use mathlib.Core.List.{List, [], _∷_, _++_}
-use lib.ListN.{length, getD, length-append, List·getD-eq-default}
-use lib.Seq.{sets}
+-- What was written as an entry reads back as it: labels, entries of rows, rows, records, stations, links and packets.
+use Prim.Native.Nat.{ℕ, suc, _+_, _*_, _≤_}
+use mathlib.Core.Path.{_≡_, refl, sym, ap, ap₂, _∙_}
+use mathlib.Core.Bool.{Bool, true, false}
+use mathlib.Core.List.{List}
+use lib.ListN.{length, getD, List·getD-eq-default, List·getD-map}
 use lib.Dec.{ltb}
+use mir.Val.{boolByte}
 use native.Mathlib.Omega.{arith}
-use Rattle.base.proofs.Lists.{flat-length}
+use borrow.Author.Tests.{ne-eqb}
 use Rattle.base.proofs.Booleans.{choose}
-use Rattle.base.proofs.Loops.{tabulate-length, tabulate-or}
+use Rattle.base.specs.Lists.{tabulate}
+use Rattle.base.proofs.Loops.{tabulate-or, tabulate-part}
 use Rattle.label.specs.declared.Label.{Label}
 use Rattle.label.specs.Label.{label}
-use Rattle.codec.specs.Bytes.{littleEndian}
-use Rattle.codec.proofs.ByteLaws.{sets-next, little-length}
+use Rattle.codec.specs.Bytes.{byteAt}
+use Rattle.codec.specs.Fields.{values, Fits}
+use Rattle.codec.specs.Tables.{tableAt, padded, countedAt}
+use Rattle.codec.proofs.TableLaws.{Stands, counted-wide, counted-back}
+use Rattle.codec.proofs.FieldLaws.{written-wide, flag-back, flag-is, format-back, entry-back}
 use Rattle.model.specs.Memory.{Successor, Row, Record, Body, request, reply, error, other, Packet, zeroLabel, zeroPacket, rowLimit, airLimit}
 use Rattle.rows.specs.declared.Row as code
-use Rattle.rows.specs.View.{entryOf, rowOf}
+use Rattle.rows.specs.View.{successor, entryOf, rowOf}
 use Rattle.rows.proofs.Bounds.{RowLengths}
+use Rattle.network.specs.declared.RequestNumber.{RequestNumber}
+use Rattle.network.specs.declared.Record as network
+use Rattle.network.specs.declared.Packet as network-packet
 use Rattle.network.specs.declared.Air.{Air}
 use Rattle.network.specs.View as view
-use Rattle.network.specs.View.{bodyOf, packetOf, packetsOf, airOf}
+use Rattle.network.specs.View.{recordOf, requestOf, replyOf, bodyOf, packetOf, packetsOf, airOf}
 use Rattle.network.proofs.PacketLaws.{packetIn}
-use Rattle.layout.specs.Written.{flag, padded, labelBytes, zeroSuccessor, successorBytes, rowBytes, recordBytes, fieldBytes, bodyBytes, packetBytes}
+use Rattle.layout.specs.Formats.{labelFormat, labelFrom, successorFormat, successorFrom, successorWide, zeroSuccessor, rowWide, recordFormat, recordFrom, Station, stationFormat, stationFrom, linkFormat, linkFrom, packetFormat, resetIn, packetFrom, packetWide, airWide, plainBody, plainOf, Known}
+use Rattle.layout.specs.declared.memory.Stations.{Stations}
+use Rattle.layout.specs.Entries.{recordIn, stationAt}
+use Rattle.layout.specs.Stored.{storedLabel, storedSuccessor, storedRow, storedRecord, storedStation, storedLink, storedFields, storedPacket, storedAir}
+use Rattle.layout.specs.Written.{labelBytes, successorBytes, rowBytes, recordBytes, stationBytes, linkBytes, packetBytes, airBytes}
+use Rattle.layout.specs.Fits.{RowFits, PacketFits}
+use Rattle.layout.specs.Meaning.{isZeroLabel, fieldsHaveMeaning, packetHasMeaning}
 
--- Widths.
-pub label-wide : (l : Label) → length (labelBytes l) ≡ 16
-unfolding labelBytes
-label-wide l =
-    omega (arith, length-append (littleEndian 8 (l .s .0)) (littleEndian 4 (l .m) ++ littleEndian 4 (l .d)), length-append (littleEndian 4 (l .m)) (littleEndian 4 (l .d)), little-length 8 (l .s .0), little-length 4 (l .m), little-length 4 (l .d))
+-- Widths of rows and of the air.
+pub row-wide : (r : Row) → length (rowBytes r) ≡ rowWide
+row-wide r = counted-wide successorBytes _ (written-wide successorFormat) rowLimit zeroSuccessor r
 
-pub successor-wide : (e : Successor) → length (successorBytes e) ≡ 17
-unfolding successorBytes
-successor-wide e = omega (arith, label-wide (e .label))
+pub packet-wide : (p : Packet) → length (packetBytes p) ≡ packetWide
+packet-wide p = written-wide packetFormat (plainOf p)
 
-pub row-wide : (r : Row) → length (rowBytes r) ≡ 69
-unfolding rowBytes padded
-row-wide r =
-    omega (arith, flat-length successorBytes 17 (padded rowLimit zeroSuccessor r) successor-wide, tabulate-length rowLimit (λ k. getD r k zeroSuccessor))
+pub air-wide : (air : List Packet) → length (airBytes air) ≡ airWide
+air-wide air = counted-wide packetBytes _ packet-wide airLimit zeroPacket air
 
-pub record-wide : (r : Record) → length (recordBytes r) ≡ 23
-unfolding recordBytes
-record-wide r =
-    omega (arith, length-append (littleEndian 4 (r .number)) (r .destination ∷ (labelBytes (r .cached) ++ (r .lastHop ∷ flag (r .passed) ∷ []))), length-append (labelBytes (r .cached)) (r .lastHop ∷ flag (r .passed) ∷ []), little-length 4 (r .number), label-wide (r .cached))
+-- A record of the code is read as the model's.
+pub record-in : (r : network.Record) → recordOf r ≡ recordIn r
+unfolding recordOf
+record-in r = refl
 
-field-wide : (sender receiver kind source number destination : ℕ) (l : Label) (reset : Bool) (mask : ℕ)
-    → length (fieldBytes sender receiver kind source number destination l reset mask) ≡ 28
-unfolding fieldBytes
-field-wide sender receiver kind source number destination l reset mask =
-    omega (arith, length-append (littleEndian 4 number) (destination ∷ (labelBytes l ++ (flag reset ∷ littleEndian 2 mask))), length-append (labelBytes l) (flag reset ∷ littleEndian 2 mask), little-length 4 number, label-wide l, little-length 2 mask)
+-- What a station keeps, of tables of it.
+pub station-same : (kept : Stations) (i : ℕ) → record { number = getD (kept .numbers) i view.zeroNumber .0; sought = getD (kept .sought) i 0; active = getD (kept .active) i false } ≡ stationAt kept i
+station-same kept i =
+    let number = sym (List·getD-map (λ (x : RequestNumber). x .0) (kept .numbers) i view.zeroNumber) in
+    λ j. record { number = number j; sought = getD (kept .sought) i 0; active = getD (kept .active) i false }
 
-pub packet-wide : (p : Packet) → length (packetBytes p) ≡ 28
-unfolding packetBytes bodyBytes
-packet-wide p = go (p .body)
+-- Reading back.
+module _ (bytes : List ℕ) (at : ℕ) where
+  pub label-back : (l : Label) → Fits labelFormat l → Stands (labelBytes l) bytes at → storedLabel bytes at ≡ l
+  label-back l fits h = entry-back labelFormat bytes at l fits h labelFrom refl
+
+  pub successor-back : (e : Successor) → Fits successorFormat e → Stands (successorBytes e) bytes at → storedSuccessor bytes at ≡ e
+  successor-back e fits h = entry-back successorFormat bytes at e fits h successorFrom refl
+
+  pub record-back : (r : Record) → Fits recordFormat r → Stands (recordBytes r) bytes at → storedRecord bytes at ≡ r
+  record-back r fits h = entry-back recordFormat bytes at r fits h recordFrom (simp flag-back)
+
+  pub station-back : (k : Station) → Fits stationFormat k → Stands (stationBytes k) bytes at → storedStation bytes at ≡ k
+  station-back k fits h = entry-back stationFormat bytes at k fits h stationFrom (simp flag-back)
+
+  pub link-back : (up : Bool) → Fits linkFormat up → Stands (linkBytes up) bytes at → storedLink bytes at ≡ up
+  link-back up fits h = entry-back linkFormat bytes at up fits h linkFrom (simp flag-back)
+
+pub row-back : (bytes : List ℕ) (at : ℕ) (r : Row) → RowFits r → Stands (rowBytes r) bytes at → storedRow bytes at ≡ r
+unfolding storedRow
+row-back bytes at r fits h =
+    counted-back successorBytes _ (written-wide successorFormat) rowLimit zeroSuccessor bytes at r h (Fits successorFormat) storedSuccessor successor-back fits
+
+-- The packet that is written for one is read as it, and its bytes have a meaning.
+plain-body : (a b : ℕ) (body : Body) → Known body → packetOf (plainBody a b body) ≡ record { sender = a; receiver = b; body = body }
+unfolding Known requestOf replyOf bodyOf packetOf plainBody
+plain-body a b (request R) h = refl
+plain-body a b (reply v) h = refl
+plain-body a b (error mask) h = refl
+plain-body a b (other kind) h = rw (ne-eqb kind 1 (h .0), ne-eqb kind 2 (h .1), ne-eqb kind 3 (h .2))
+
+plain-meant : (a b : ℕ) (body : Body) → Known body → fieldsHaveMeaning (plainBody a b body) (boolByte (plainBody a b body .reset)) ≡ true
+unfolding Known plainBody fieldsHaveMeaning isZeroLabel
+plain-meant a b (request R) h = flag-is (R .reset)
+plain-meant a b (reply v) h = refl
+plain-meant a b (error mask) h = refl
+plain-meant a b (other kind) h = rw (ne-eqb kind 1 (h .0), ne-eqb kind 2 (h .1), ne-eqb kind 3 (h .2))
+
+module _ (bytes : List ℕ) (at : ℕ) (p : Packet) (fits : PacketFits p) (h : Stands (packetBytes p) bytes at) where
+  made : packetFrom (values packetFormat (plainOf p)) ≡ plainOf p
+  made = simp flag-back
+
+  pub packet-back : storedPacket bytes at ≡ p
+  packet-back = ap packetOf (entry-back packetFormat bytes at (plainOf p) (fits .0) h packetFrom made) ∙ plain-body (p .sender) (p .receiver) (p .body) (fits .1)
+
+  pub packet-meant : packetHasMeaning bytes at ≡ true
+  unfolding packetHasMeaning
+  packet-meant =
+      ap (λ (v : List ℕ). fieldsHaveMeaning (packetFrom v) (resetIn v)) (format-back packetFormat bytes at (plainOf p) (fits .0) h)
+      ∙ ap (λ q. fieldsHaveMeaning q (boolByte (plainOf p .reset))) made ∙ plain-meant (p .sender) (p .receiver) (p .body) (fits .1)
+
+-- A row whose labels and stations are those of the entries at a place.
+pub row-stored : (bytes : List ℕ) (at : ℕ) (row : code.Row) → row .labels ≡ tabulate rowLimit (λ j. storedSuccessor bytes (at + 1 + successorWide * j) .label)
+    → row .stations ≡ tabulate rowLimit (λ j. storedSuccessor bytes (at + 1 + successorWide * j) .station) → row .count ≡ byteAt bytes at → rowOf row ≡ storedRow bytes at
+unfolding rowOf entryOf storedRow countedAt padded tableAt zeroSuccessor zeroLabel
+row-stored bytes at row labels stations count = λ i. tabulate (count i) (λ k. same k i)
   where
-    go : (b : Body) → length (bodyBytes (p .sender) (p .receiver) b) ≡ 28
-    go (request R) = field-wide _ _ _ _ _ _ _ _ _
-    go (reply v) = field-wide _ _ _ _ _ _ _ _ _
-    go (error mask) = field-wide _ _ _ _ _ _ _ _ _
-    go (other kind) = field-wide _ _ _ _ _ _ _ _ _
+    f : ℕ → Successor
+    f j = storedSuccessor bytes (at + 1 + successorWide * j)
 
--- Parts put one after the other.
-module _ (out : List ℕ) (at : ℕ) where
-  pub label-put : (l : Label) → sets (sets (sets out at (littleEndian 8 (l .s .0))) (at + 8) (littleEndian 4 (l .m))) (at + 12) (littleEndian 4 (l .d)) ≡ sets out at (labelBytes l)
-  unfolding labelBytes
-  label-put l =
-      sets-next _ (at + 8) (at + 12) (littleEndian 4 (l .m)) (littleEndian 4 (l .d)) (omega (arith, little-length 4 (l .m)))
-      ∙ sets-next out at (at + 8) (littleEndian 8 (l .s .0)) _ (omega (arith, little-length 8 (l .s .0)))
-
-  pub successor-put : (e : Successor) → sets (sets out at (e .station ∷ [])) (at + 1) (labelBytes (e .label)) ≡ sets out at (successorBytes e)
-  unfolding successorBytes
-  successor-put e = sets-next out at (at + 1) (e .station ∷ []) (labelBytes (e .label)) refl
-
-  pub record-put : (r : Record) → sets (sets (sets (sets (sets out at (littleEndian 4 (r .number))) (at + 4) (r .destination ∷ [])) (at + 5) (labelBytes (r .cached))) (at + 21) (r .lastHop ∷ [])) (at + 22) (flag (r .passed) ∷ [])
-      ≡ sets out at (recordBytes r)
-  unfolding recordBytes
-  record-put r =
-      let first = sets out at (littleEndian 4 (r .number)) in
-      let second = sets first (at + 4) (r .destination ∷ []) in
-      let third = sets second (at + 5) (labelBytes (r .cached)) in
-      let flags = r .lastHop ∷ flag (r .passed) ∷ [] in
-      sets-next third (at + 21) (at + 22) (r .lastHop ∷ []) (flag (r .passed) ∷ []) (omega arith)
-      ∙ sets-next second (at + 5) (at + 21) (labelBytes (r .cached)) flags (omega (arith, label-wide (r .cached)))
-      ∙ sets-next first (at + 4) (at + 5) (r .destination ∷ []) (labelBytes (r .cached) ++ flags) (omega arith)
-      ∙ sets-next out at (at + 4) (littleEndian 4 (r .number)) (r .destination ∷ (labelBytes (r .cached) ++ flags)) (omega (arith, little-length 4 (r .number)))
-
-  pub four-put : (a b c d : ℕ) → sets (sets (sets (sets out at (a ∷ [])) (at + 1) (b ∷ [])) (at + 2) (c ∷ [])) (at + 3) (d ∷ []) ≡ sets out at (a ∷ b ∷ c ∷ d ∷ [])
-  four-put a b c d =
-      let first = sets out at (a ∷ []) in
-      sets-next (sets first (at + 1) (b ∷ [])) (at + 2) (at + 3) (c ∷ []) (d ∷ []) (omega arith)
-      ∙ sets-next first (at + 1) (at + 2) (b ∷ []) (c ∷ d ∷ []) (omega arith)
-      ∙ sets-next out at (at + 1) (a ∷ []) (b ∷ c ∷ d ∷ []) (omega arith)
-
-  pub field-put : (sender receiver kind source number destination : ℕ) (l : Label) (reset : Bool) (mask : ℕ)
-      → sets (sets (sets (sets (sets (sets out at (sender ∷ receiver ∷ kind ∷ source ∷ [])) (at + 4) (littleEndian 4 number)) (at + 8) (destination ∷ []))
-      (at + 9) (labelBytes l)) (at + 25) (flag reset ∷ [])) (at + 26) (littleEndian 2 mask)
-      ≡ sets out at (fieldBytes sender receiver kind source number destination l reset mask)
-  unfolding fieldBytes
-  field-put sender receiver kind source number destination l reset mask =
-      let head = sender ∷ receiver ∷ kind ∷ source ∷ [] in
-      let second = sets (sets out at head) (at + 4) (littleEndian 4 number) in
-      let third = sets second (at + 8) (destination ∷ []) in
-      let last = flag reset ∷ littleEndian 2 mask in
-      sets-next (sets third (at + 9) (labelBytes l)) (at + 25) (at + 26) (flag reset ∷ []) (littleEndian 2 mask) (omega arith)
-      ∙ sets-next third (at + 9) (at + 25) (labelBytes l) last (omega (arith, label-wide l))
-      ∙ sets-next second (at + 8) (at + 9) (destination ∷ []) (labelBytes l ++ last) (omega arith)
-      ∙ sets-next (sets out at head) (at + 4) (at + 8) (littleEndian 4 number) (destination ∷ (labelBytes l ++ last)) (omega (arith, little-length 4 number))
-      ∙ sets-next out at (at + 4) head (littleEndian 4 number ++ (destination ∷ (labelBytes l ++ last))) (omega arith)
+    same : (k : ℕ) → entryOf row k ≡ getD (tabulate rowLimit f) k zeroSuccessor
+    same k =
+        ap₂ successor
+        (ap (λ (l : List ℕ). getD l k 0) stations ∙ tabulate-part (λ (e : Successor). e .station) rowLimit f k zeroSuccessor)
+        (ap (λ (l : List Label). getD l k (label 0 0 0)) labels ∙ tabulate-part (λ (e : Successor). e .label) rowLimit f k zeroSuccessor)
 
 -- Past its places a row reads as zeros.
 pub row-past : (row : code.Row) → RowLengths row → (k : ℕ) → rowLimit ≤ k → getD (rowOf row) k zeroSuccessor ≡ zeroSuccessor
@@ -120,6 +135,20 @@ row-past row long k h =
 pub zero-packet : packetOf view.zeroPacket ≡ zeroPacket
 unfolding packetOf bodyOf zeroPacket
 zero-packet = refl
+
+-- An air whose packets are those at a place.
+pub air-stored : (bytes : List ℕ) (at : ℕ) (air : Air) → air .packets ≡ tabulate airLimit (λ j. storedFields bytes (at + 1 + packetWide * j))
+    → air .count ≡ byteAt bytes at → airOf air ≡ storedAir bytes at
+unfolding packetsOf storedAir countedAt padded tableAt
+air-stored bytes at air packets count = λ i. tabulate (count i) (λ k. same k i)
+  where
+    f : ℕ → network-packet.Packet
+    f j = storedFields bytes (at + 1 + packetWide * j)
+
+    same : (k : ℕ) → packetIn (air .packets) k ≡ getD (tabulate airLimit (λ j. packetOf (f j))) k zeroPacket
+    same k =
+        ap (λ (l : List network-packet.Packet). packetOf (getD l k view.zeroPacket)) packets ∙ sym (tabulate-part packetOf airLimit f k view.zeroPacket)
+        ∙ ap (getD (tabulate airLimit (λ j. packetOf (f j))) k) zero-packet
 
 pub air-past : (air : Air) → length (air .packets) ≡ airLimit → (k : ℕ) → airLimit ≤ k → getD (airOf air) k zeroPacket ≡ zeroPacket
 unfolding packetsOf

@@ -1,6 +1,5 @@
-pub mod BackLaws
 pub mod EntryLaws
+pub mod MeaningLaws
+pub mod StoredLaws
 pub mod NetworkLaws
 pub mod ReadBack
-pub mod StoredLaws
-pub mod WritingLaws

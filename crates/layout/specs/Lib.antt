@@ -1,5 +1,7 @@
+pub mod Formats
 pub mod Places
 pub mod Stored
 pub mod Written
 pub mod Fits
 pub mod Meaning
+pub mod Entries

@@ -1,33 +1,42 @@
--- Where the parts of the memory begin (docs/LAYOUT.md).
-use Prim.Native.Nat.{ℕ}
+-- The parts of the layout and where they begin (docs/LAYOUT.md, "The parts"): each where the one before it ends.
+use Prim.Native.Nat.{ℕ, _+_, _*_}
+use mathlib.Core.List.{List, [], _∷_}
+use Rattle.codec.specs.Fields.{total, placeOf}
+use Rattle.layout.specs.Formats.{labelWide, rowWide, recordWide, stationWide, linkWide, airWide}
 
-abbrev pub numbersAt : ℕ
-numbersAt = 1
+-- The layout's number, which its first byte holds. The layout before had none and n in its first byte, so no number up to 16 is taken.
+abbrev pub layoutVersion : ℕ
+layoutVersion = 17
 
-abbrev pub soughtAt : ℕ
-soughtAt = 65
+-- The version, n, the stations, the links, the labels, rows and records, and the air.
+abbrev pub partWidths : List ℕ
+partWidths = 1 ∷ 1 ∷ stationWide * 16 ∷ linkWide * 256 ∷ labelWide * 256 ∷ rowWide * 256 ∷ recordWide * 256 ∷ airWide ∷ []
 
-abbrev pub activeAt : ℕ
-activeAt = 81
+abbrev pub sizeAt : ℕ
+sizeAt = placeOf partWidths 1
+
+abbrev pub stationsAt : ℕ
+stationsAt = placeOf partWidths 2
 
 abbrev pub linksAt : ℕ
-linksAt = 97
+linksAt = placeOf partWidths 3
 
 abbrev pub labelsAt : ℕ
-labelsAt = 353
+labelsAt = placeOf partWidths 4
 
 abbrev pub rowsAt : ℕ
-rowsAt = 4_449
+rowsAt = placeOf partWidths 5
 
 abbrev pub recordsAt : ℕ
-recordsAt = 22_113
+recordsAt = placeOf partWidths 6
 
 abbrev pub airAt : ℕ
-airAt = 28_001
+airAt = placeOf partWidths 7
 
+-- The packets stand behind their number.
 abbrev pub packetsAt : ℕ
-packetsAt = 28_002
+packetsAt = airAt + 1
 
 -- The length of the whole.
 abbrev pub layoutLength : ℕ
-layoutLength = 31_586
+layoutLength = total partWidths

@@ -1,84 +1,59 @@
--- What the bytes of the layout read as: the memory that stands in them, each field at its place, little-endian.
-use Prim.Native.Nat.{ℕ, _+_}
+-- What the bytes of the layout read as: each entry by its format at its place.
+use Prim.Native.Nat.{ℕ}
 use mathlib.Core.Bool.{Bool}
-use mathlib.Core.List.{List}
-use lib.Dec.{eqb}
+use mathlib.Core.List.{List, map}
 use Rattle.label.specs.declared.Label.{Label}
-use Rattle.label.specs.Label.{label}
-use Rattle.codec.specs.Bytes.{byteAt, numberAt}
-use Rattle.codec.specs.Tables.{tableAt}
-use Rattle.model.specs.Memory.{Network, airLimit, rowLimit}
-use Rattle.rows.specs.declared.Row.{Row}
-use Rattle.network.specs.declared.RequestNumber.{RequestNumber}
-use Rattle.network.specs.declared.Record.{Record}
-use Rattle.network.specs.declared.Packet.{Packet}
-use Rattle.network.specs.declared.Air.{Air}
-use Rattle.network.specs.declared.Memory.{Memory}
-use Rattle.network.specs.View.{view}
-use Rattle.layout.specs.Places.{numbersAt, soughtAt, activeAt, linksAt, labelsAt, rowsAt, recordsAt, airAt}
+use Rattle.codec.specs.Bytes.{byteAt}
+use Rattle.codec.specs.Fields.{read}
+use Rattle.codec.specs.Tables.{tableAt, countedAt}
+use Rattle.model.specs.Memory.{Successor, Row, Record, Packet, Network, zeroPacket, rowLimit, airLimit}
+use Rattle.network.specs.declared.Packet as code
+use Rattle.network.specs.View.{packetOf}
+use Rattle.layout.specs.Formats.{labelFormat, labelFrom, labelWide, successorFormat, successorFrom, successorWide, zeroSuccessor, rowWide, recordFormat, recordFrom, recordWide, Station, stationFormat, stationFrom, stationWide, linkFormat, linkFrom, linkWide, packetFormat, packetFrom, packetWide}
+use Rattle.layout.specs.Places.{sizeAt, stationsAt, linksAt, labelsAt, rowsAt, recordsAt, airAt}
 
--- A flag: 1 is yes. What is neither 0 nor 1 has no meaning (Meaning.antt).
-abbrev pub storedFlag : List ℕ → ℕ → Bool
-storedFlag bytes at = eqb (byteAt bytes at) 1
+abbrev pub storedLabel : List ℕ → ℕ → Label
+storedLabel bytes at = read labelFormat labelFrom bytes at
 
-abbrev pub storedNumber : List ℕ → ℕ → RequestNumber
-storedNumber bytes at = record { 0 = numberAt 4 bytes at }
+abbrev pub storedSuccessor : List ℕ → ℕ → Successor
+storedSuccessor bytes at = read successorFormat successorFrom bytes at
 
--- s (8 bytes), m (4), d (4).
-unfoldable pub storedLabel : List ℕ → ℕ → Label
-storedLabel bytes at = label (numberAt 8 bytes at) (numberAt 4 bytes (at + 8)) (numberAt 4 bytes (at + 12))
-
--- The count, and four entries of a station and its label, 17 bytes each.
 unfoldable pub storedRow : List ℕ → ℕ → Row
-storedRow bytes at = record {
-  labels = tableAt storedLabel 17 rowLimit bytes (at + 2);
-  stations = tableAt byteAt 17 rowLimit bytes (at + 1);
-  count = byteAt bytes at;
-}
+storedRow bytes at = countedAt storedSuccessor successorWide rowLimit zeroSuccessor bytes at
 
--- number (4), destination, C (16), last hop, passed.
-unfoldable pub storedRecord : List ℕ → ℕ → Record
-storedRecord bytes at = record {
-  cached = storedLabel bytes (at + 5);
-  number = storedNumber bytes at;
-  destination = byteAt bytes (at + 4);
-  «last_hop» = byteAt bytes (at + 21);
-  passed = storedFlag bytes (at + 22);
-}
+abbrev pub storedRecord : List ℕ → ℕ → Record
+storedRecord bytes at = read recordFormat recordFrom bytes at
 
--- sender, receiver, kind, source, number (4), destination, label (16), reset bit, mask (2).
-unfoldable pub storedPacket : List ℕ → ℕ → Packet
-storedPacket bytes at = record {
-  label = storedLabel bytes (at + 9);
-  number = storedNumber bytes (at + 4);
-  mask = numberAt 2 bytes (at + 26);
-  kind = byteAt bytes (at + 2);
-  sender = byteAt bytes at;
-  receiver = byteAt bytes (at + 1);
-  source = byteAt bytes (at + 3);
-  destination = byteAt bytes (at + 8);
-  reset = storedFlag bytes (at + 25);
-}
+abbrev pub storedStation : List ℕ → ℕ → Station
+storedStation bytes at = read stationFormat stationFrom bytes at
 
--- The count, and 128 packets.
-unfoldable pub storedAir : List ℕ → ℕ → Air
-storedAir bytes at = record { packets = tableAt storedPacket 28 airLimit bytes (at + 1); count = byteAt bytes at }
+abbrev pub storedLink : List ℕ → ℕ → Bool
+storedLink bytes at = read linkFormat linkFrom bytes at
 
-unfoldable pub storedMemory : List ℕ → Memory
-storedMemory bytes = record {
-  s = tableAt (λ b at. storedLabel b at .s .0) 16 256 bytes labelsAt;
-  m = tableAt (λ b at. storedLabel b at .m) 16 256 bytes labelsAt;
-  d = tableAt (λ b at. storedLabel b at .d) 16 256 bytes labelsAt;
-  rows = tableAt storedRow 69 256 bytes rowsAt;
-  records = tableAt storedRecord 23 256 bytes recordsAt;
+-- A packet with all its fields, and the model's.
+abbrev pub storedFields : List ℕ → ℕ → code.Packet
+storedFields bytes at = read packetFormat packetFrom bytes at
+
+abbrev pub storedPacket : List ℕ → ℕ → Packet
+storedPacket bytes at = packetOf (storedFields bytes at)
+
+unfoldable pub storedAir : List ℕ → ℕ → List Packet
+storedAir bytes at = countedAt storedPacket packetWide airLimit zeroPacket bytes at
+
+-- The stations' entries.
+unfoldable pub storedStations : List ℕ → List Station
+storedStations bytes = tableAt storedStation stationWide 16 bytes stationsAt
+
+-- The network that the bytes read as.
+unfoldable pub networkIn : List ℕ → Network
+networkIn bytes = record {
+  n = byteAt bytes sizeAt;
+  labels = tableAt storedLabel labelWide 256 bytes labelsAt;
+  rows = tableAt storedRow rowWide 256 bytes rowsAt;
+  records = tableAt storedRecord recordWide 256 bytes recordsAt;
+  links = tableAt storedLink linkWide 256 bytes linksAt;
+  numbers = map (λ k. k .number) (storedStations bytes);
+  sought = map (λ k. k .sought) (storedStations bytes);
+  active = map (λ k. k .active) (storedStations bytes);
   air = storedAir bytes airAt;
-  numbers = tableAt storedNumber 4 16 bytes numbersAt;
-  sought = tableAt byteAt 1 16 bytes soughtAt;
-  active = tableAt storedFlag 1 16 bytes activeAt;
-  links = tableAt storedFlag 1 256 bytes linksAt;
-  n = byteAt bytes 0;
 }
-
--- The network that stands in the bytes.
-unfoldable pub storedNetwork : List ℕ → Network
-storedNetwork bytes = view (storedMemory bytes)

@@ -1,78 +1,140 @@
-// Labels, rows and records in bytes.
+// Labels, rows, records, stations and links in bytes, by their formats.
 ghost use mathlib.Core.Path.{_≡_};
-ghost use Prim.Native.Nat.{_+_, _^_, _≤_, _<_};
+ghost use Prim.Native.Nat.{_+_, _≤_, _<_};
 ghost use lib.ListN.{length, getD};
 ghost use lib.Seq.{sets};
-ghost use Rattle.codec.specs.Bytes.{littleEndian};
+ghost use Rattle.codec.specs.Fields.{widths, values, AllFit, Fits};
+ghost use Rattle.model.specs.Memory.{rowLimit};
 ghost use Rattle.rows.specs.View.{successor, rowOf};
 ghost use Rattle.network.specs.View.{recordOf};
-ghost use Rattle.layout.specs.Stored.{storedLabel, storedRow, storedRecord};
-ghost use Rattle.layout.specs.Written.{flag, labelBytes, zeroSuccessor, successorBytes, rowBytes, recordBytes};
-ghost use Rattle.layout.specs.Fits.{LabelFits, RowFits, RecordFits};
-ghost use Rattle.model.specs.Memory.{rowLimit};
-use codec::number_at;
+ghost use Rattle.layout.specs.Formats.{labelFormat, labelFrom, labelWide, successorFormat, successorFrom, successorWide, zeroSuccessor, rowWide, recordFormat, recordFrom, recordWide, stationFormat, stationFrom, stationWide, linkFormat, linkFrom, linkWide};
+ghost use Rattle.layout.specs.Stored.{storedLabel, storedSuccessor, storedRow, storedRecord, storedStation, storedLink};
+ghost use Rattle.layout.specs.Written.{labelBytes, successorBytes, rowBytes, recordBytes, stationBytes, linkBytes};
+ghost use Rattle.layout.specs.Fits.{RowFits};
+ghost use Rattle.layout.specs.Entries.{recordIn, stationIn};
+use crate::formats::LABEL_WIDTHS;
+use crate::formats::LINK_WIDTHS;
+use crate::formats::RECORD_WIDTHS;
+use crate::formats::STATION_WIDTHS;
+use crate::formats::SUCCESSOR_BYTES;
+use crate::formats::SUCCESSOR_WIDTHS;
+use codec::get_fields;
 use codec::put_byte;
-use codec::put_number;
+use codec::put_fields;
 use label::Label;
+use label::SequenceNumber;
 use label::label_of;
 use network::Record;
 use network::RequestNumber;
 use rows::ROW_LIMIT;
 use rows::Row;
 
-// A flag's byte.
-pub fn flag(yes: bool) -> u8
-    ensures { λ r. ⌜ r ≡ flag yes ⌝ }
+// The label with these values, and the values of a label.
+fn label_from(v: [u64; 3]) -> Label
+    requires { ⌜ AllFit (widths labelFormat) v ⌝ }
+    ensures { λ r. ⌜ r ≡ labelFrom v ⌝ }
 {
-    if yes {
-        return 1;
+    Label {
+        s: SequenceNumber(v[0]),
+        m: v[1] as u32,
+        d: v[2] as u32,
     }
-    0
 }
 
-// The label at a place.
-pub fn read_label(bytes: &[u8], at: usize) -> Label
-    requires { ⌜ at + 16 ≤ length (now bytes) ⌝ }
-    ensures { λ r. ⌜ r ≡ storedLabel (now (bytes .entry)) at ⌝ }
-{
-    let s = number_at(bytes, at, 8);
-    let m = number_at(bytes, at + 8, 4) as u32;
-    let d = number_at(bytes, at + 12, 4) as u32;
-    label_of(s, m, d)
-}
-
-pub fn put_label(out: &mut [u8], at: usize, l: Label)
-    requires { ⌜ at + 16 ≤ length (now out) ⌝ }
-    ensures { λ _. ⌜ (now (out .exit) ≡ sets (now (out .entry)) at (labelBytes l)) × LabelFits l ⌝ }
+fn label_values(l: Label) -> [u64; 3]
+    ensures { λ r. ⌜ (r ≡ values labelFormat l) × Fits labelFormat l ⌝ }
 {
     let s = l.s.0;
     let m = l.m;
     let d = l.d;
-    put_number(out, at, 8, s);
-    put_number(out, at + 8, 4, m as u64);
-    put_number(out, at + 12, 4, d as u64);
+    [s, m as u64, d as u64]
 }
 
-pub fn put_request_number(out: &mut [u8], at: usize, number: RequestNumber)
-    requires { ⌜ at + 4 ≤ length (now out) ⌝ }
-    ensures { λ _. ⌜ (now (out .exit) ≡ sets (now (out .entry)) at (littleEndian 4 (number .0))) × (number .0 < 256 ^ 4) ⌝ }
+// The label at a place.
+pub fn read_label(bytes: &[u8], at: usize) -> Label
+    requires { ⌜ at + labelWide ≤ length (now bytes) ⌝ }
+    ensures { λ r. ⌜ r ≡ storedLabel (now (bytes .entry)) at ⌝ }
 {
-    let value = number.0;
-    put_number(out, at, 4, value as u64);
+    let widths = LABEL_WIDTHS;
+    let mut v = [0; 3];
+    get_fields(bytes, at, &widths, &mut v);
+    label_from(v)
+}
+
+pub fn put_label(out: &mut [u8], at: usize, l: Label)
+    requires { ⌜ at + labelWide ≤ length (now out) ⌝ }
+    ensures { λ _. ⌜ (now (out .exit) ≡ sets (now (out .entry)) at (labelBytes l)) × Fits labelFormat l ⌝ }
+{
+    let widths = LABEL_WIDTHS;
+    let v = label_values(l);
+    put_fields(out, at, &widths, &v);
+}
+
+// An entry of a row.
+pub struct Entry {
+    pub label: Label,
+    pub station: u8,
+}
+
+fn entry_from(v: [u64; 4]) -> Entry
+    requires { ⌜ AllFit (widths successorFormat) v ⌝ }
+    ensures { λ r. ⌜ successor (r .station) (r .label) ≡ successorFrom v ⌝ }
+{
+    Entry {
+        label: Label {
+            s: SequenceNumber(v[1]),
+            m: v[2] as u32,
+            d: v[3] as u32,
+        },
+        station: v[0] as u8,
+    }
+}
+
+fn entry_values(e: Entry) -> [u64; 4]
+    ensures { λ r. ⌜ (r ≡ values successorFormat (successor (e .station) (e .label))) × Fits successorFormat (successor (e .station) (e .label)) ⌝ }
+{
+    let station = e.station;
+    let s = e.label.s.0;
+    let m = e.label.m;
+    let d = e.label.d;
+    [station as u64, s, m as u64, d as u64]
+}
+
+fn read_entry(bytes: &[u8], at: usize) -> Entry
+    requires { ⌜ at + successorWide ≤ length (now bytes) ⌝ }
+    ensures { λ r. ⌜ successor (r .station) (r .label) ≡ storedSuccessor (now (bytes .entry)) at ⌝ }
+{
+    let widths = SUCCESSOR_WIDTHS;
+    let mut v = [0; 4];
+    get_fields(bytes, at, &widths, &mut v);
+    entry_from(v)
+}
+
+fn put_entry(out: &mut [u8], at: usize, e: Entry)
+    requires { ⌜ at + successorWide ≤ length (now out) ⌝ }
+    ensures { λ _. ⌜ (now (out .exit) ≡ sets (now (out .entry)) at (successorBytes (successor (e .station) (e .label))))
+        × Fits successorFormat (successor (e .station) (e .label)) ⌝ }
+{
+    let widths = SUCCESSOR_WIDTHS;
+    let v = entry_values(e);
+    put_fields(out, at, &widths, &v);
 }
 
 // The row at a place.
 pub fn read_row(bytes: &[u8], at: usize) -> Row
-    requires { ⌜ at + 69 ≤ length (now bytes) ⌝ }
-    ensures { λ r. ⌜ r ≡ storedRow (now (bytes .entry)) at ⌝ }
+    requires { ⌜ at + rowWide ≤ length (now bytes) ⌝ }
+    ensures { λ r. ⌜ rowOf r ≡ storedRow (now (bytes .entry)) at ⌝ }
 {
     let none = label_of(0, 0, 0);
     let mut labels = [none; ROW_LIMIT as usize];
     let mut stations = [0; ROW_LIMIT as usize];
     let mut k = 0;
     while k < ROW_LIMIT as usize {
-        stations[k] = bytes[at + 1 + 17 * k];
-        labels[k] = read_label(bytes, at + 2 + 17 * k);
+        let e = read_entry(bytes, at + 1 + SUCCESSOR_BYTES * k);
+        let label = e.label;
+        let station = e.station;
+        labels[k] = label;
+        stations[k] = station;
         k += 1;
     }
     let count = bytes[at];
@@ -81,12 +143,6 @@ pub fn read_row(bytes: &[u8], at: usize) -> Row
         stations: stations,
         count: count,
     }
-}
-
-// An entry of a row.
-pub struct Entry {
-    pub label: Label,
-    pub station: u8,
 }
 
 // Entry k of a row, or zeros where the row has none.
@@ -109,60 +165,141 @@ fn entry_of(row: Row, k: usize) -> Entry
     }
 }
 
-fn put_entry(out: &mut [u8], at: usize, e: Entry)
-    requires { ⌜ at + 17 ≤ length (now out) ⌝ }
-    ensures { λ _. ⌜ (now (out .exit) ≡ sets (now (out .entry)) at (successorBytes (successor (e .station) (e .label)))) × LabelFits (e .label) ⌝ }
-{
-    let station = e.station;
-    let label = e.label;
-    put_byte(out, at, station);
-    put_label(out, at + 1, label);
-}
-
 pub fn put_row(out: &mut [u8], at: usize, row: Row)
-    requires { ⌜ at + 69 ≤ length (now out) ⌝ }
+    requires { ⌜ at + rowWide ≤ length (now out) ⌝ }
     ensures { λ _. ⌜ (now (out .exit) ≡ sets (now (out .entry)) at (rowBytes (rowOf row))) × RowFits (rowOf row) ⌝ }
 {
     let count = row.count;
     put_byte(out, at, count);
     let mut k = 0;
     while k < ROW_LIMIT as usize {
-        put_entry(out, at + 1 + 17 * k, entry_of(row, k));
+        put_entry(out, at + 1 + SUCCESSOR_BYTES * k, entry_of(row, k));
         k += 1;
     }
 }
 
-// The record at a place.
-pub fn read_record(bytes: &[u8], at: usize) -> Record
-    requires { ⌜ at + 23 ≤ length (now bytes) ⌝ }
-    ensures { λ r. ⌜ r ≡ storedRecord (now (bytes .entry)) at ⌝ }
+// The record with these values, and the values of a record.
+fn record_from(v: [u64; 7]) -> Record
+    requires { ⌜ AllFit (widths recordFormat) v ⌝ }
+    ensures { λ r. ⌜ recordIn r ≡ recordFrom v ⌝ }
 {
-    let number = number_at(bytes, at, 4) as u32;
-    let destination = bytes[at + 4];
-    let cached = read_label(bytes, at + 5);
-    let hop = bytes[at + 21];
-    let passed = bytes[at + 22] == 1;
     Record {
-        cached: cached,
-        number: RequestNumber(number),
-        destination: destination,
-        last_hop: hop,
-        passed: passed,
+        cached: Label {
+            s: SequenceNumber(v[2]),
+            m: v[3] as u32,
+            d: v[4] as u32,
+        },
+        number: RequestNumber(v[0] as u32),
+        destination: v[1] as u8,
+        last_hop: v[5] as u8,
+        passed: v[6] == 1,
     }
 }
 
-pub fn put_record(out: &mut [u8], at: usize, kept: Record)
-    requires { ⌜ at + 23 ≤ length (now out) ⌝ }
-    ensures { λ _. ⌜ (now (out .exit) ≡ sets (now (out .entry)) at (recordBytes (recordOf kept))) × RecordFits (recordOf kept) ⌝ }
+fn record_values(kept: Record) -> [u64; 7]
+    ensures { λ r. ⌜ (r ≡ values recordFormat (recordIn kept)) × Fits recordFormat (recordIn kept) ⌝ }
 {
-    let number = kept.number;
+    let number = kept.number.0;
     let destination = kept.destination;
-    let cached = kept.cached;
+    let s = kept.cached.s.0;
+    let m = kept.cached.m;
+    let d = kept.cached.d;
     let hop = kept.last_hop;
     let passed = kept.passed;
-    put_request_number(out, at, number);
-    put_byte(out, at + 4, destination);
-    put_label(out, at + 5, cached);
-    put_byte(out, at + 21, hop);
-    put_byte(out, at + 22, flag(passed));
+    [
+        number as u64,
+        destination as u64,
+        s,
+        m as u64,
+        d as u64,
+        hop as u64,
+        passed as u64,
+    ]
+}
+
+// The record at a place.
+pub fn read_record(bytes: &[u8], at: usize) -> Record
+    requires { ⌜ at + recordWide ≤ length (now bytes) ⌝ }
+    ensures { λ r. ⌜ recordOf r ≡ storedRecord (now (bytes .entry)) at ⌝ }
+{
+    let widths = RECORD_WIDTHS;
+    let mut v = [0; 7];
+    get_fields(bytes, at, &widths, &mut v);
+    record_from(v)
+}
+
+pub fn put_record(out: &mut [u8], at: usize, kept: Record)
+    requires { ⌜ at + recordWide ≤ length (now out) ⌝ }
+    ensures { λ _. ⌜ (now (out .exit) ≡ sets (now (out .entry)) at (recordBytes (recordOf kept))) × Fits recordFormat (recordOf kept) ⌝ }
+{
+    let widths = RECORD_WIDTHS;
+    let v = record_values(kept);
+    put_fields(out, at, &widths, &v);
+}
+
+// What a station keeps of its own requests.
+pub struct Station {
+    pub number: RequestNumber,
+    pub sought: u8,
+    pub active: bool,
+}
+
+fn station_from(v: [u64; 3]) -> Station
+    requires { ⌜ AllFit (widths stationFormat) v ⌝ }
+    ensures { λ r. ⌜ stationIn r ≡ stationFrom v ⌝ }
+{
+    Station {
+        number: RequestNumber(v[0] as u32),
+        sought: v[1] as u8,
+        active: v[2] == 1,
+    }
+}
+
+fn station_values(k: Station) -> [u64; 3]
+    ensures { λ r. ⌜ (r ≡ values stationFormat (stationIn k)) × Fits stationFormat (stationIn k) ⌝ }
+{
+    let number = k.number.0;
+    let sought = k.sought;
+    let active = k.active;
+    [number as u64, sought as u64, active as u64]
+}
+
+// The station's entry at a place.
+pub fn read_station(bytes: &[u8], at: usize) -> Station
+    requires { ⌜ at + stationWide ≤ length (now bytes) ⌝ }
+    ensures { λ r. ⌜ stationIn r ≡ storedStation (now (bytes .entry)) at ⌝ }
+{
+    let widths = STATION_WIDTHS;
+    let mut v = [0; 3];
+    get_fields(bytes, at, &widths, &mut v);
+    station_from(v)
+}
+
+pub fn put_station(out: &mut [u8], at: usize, k: Station)
+    requires { ⌜ at + stationWide ≤ length (now out) ⌝ }
+    ensures { λ _. ⌜ (now (out .exit) ≡ sets (now (out .entry)) at (stationBytes (stationIn k))) × Fits stationFormat (stationIn k) ⌝ }
+{
+    let widths = STATION_WIDTHS;
+    let v = station_values(k);
+    put_fields(out, at, &widths, &v);
+}
+
+// Whether the link at a place is up.
+pub fn read_link(bytes: &[u8], at: usize) -> bool
+    requires { ⌜ at + linkWide ≤ length (now bytes) ⌝ }
+    ensures { λ r. ⌜ r ≡ storedLink (now (bytes .entry)) at ⌝ }
+{
+    let widths = LINK_WIDTHS;
+    let mut v = [0; 1];
+    get_fields(bytes, at, &widths, &mut v);
+    v[0] == 1
+}
+
+pub fn put_link(out: &mut [u8], at: usize, up: bool)
+    requires { ⌜ at + linkWide ≤ length (now out) ⌝ }
+    ensures { λ _. ⌜ now (out .exit) ≡ sets (now (out .entry)) at (linkBytes up) ⌝ }
+{
+    let widths = LINK_WIDTHS;
+    let v = [up as u64];
+    put_fields(out, at, &widths, &v);
 }

@@ -1,42 +1,58 @@
 // The whole memory in bytes.
 ghost use mathlib.Core.Path.{_≡_};
-ghost use mathlib.Core.List.{map};
+ghost use mathlib.Core.Bool.{false};
+ghost use mathlib.Core.List.{[], map, flatMap};
 ghost use Prim.Native.Nat.{_≤_};
 ghost use lib.ListN.{length};
 ghost use lib.Seq.{sets};
+ghost use Rattle.base.specs.Lists.{tabulate};
 ghost use Rattle.codec.specs.Bytes.{over};
-ghost use Rattle.network.specs.View.{view};
-ghost use Rattle.layout.specs.Places.{labelsAt, layoutLength};
-ghost use Rattle.layout.specs.Stored.{storedMemory};
-ghost use Rattle.layout.specs.Written.{headBytes, networkBytes};
-ghost use Rattle.layout.specs.Fits.{HeadFits, NetworkFits};
+ghost use Rattle.codec.specs.Fields.{Fits};
+ghost use Rattle.codec.specs.Tables.{tableAt, TableFits};
+ghost use Rattle.model.specs.Memory.{zeroLabel, zeroRecord};
+ghost use Rattle.rows.specs.View.{rowOf};
+ghost use Rattle.network.specs.View.{recordOf, labelOf, view};
+ghost use Rattle.layout.specs.Formats.{labelFormat, labelWide, rowWide, recordFormat, recordWide, stationFormat, zeroStation, linkFormat, linkWide};
+ghost use Rattle.layout.specs.Places.{layoutLength, stationsAt, linksAt, labelsAt, rowsAt, recordsAt};
+ghost use Rattle.layout.specs.Entries.{stationsFrom};
+ghost use Rattle.layout.specs.Stored.{storedLabel, storedRow, storedRecord, storedLink, storedStations, networkIn};
+ghost use Rattle.layout.specs.Written.{labelBytes, rowBytes, recordBytes, stationBytes, linkBytes, networkBytes};
+ghost use Rattle.layout.specs.Fits.{RowFits, NetworkFits};
+ghost use Rattle.layout.specs.Meaning.{storedNetwork};
+use crate::entries::Station;
 use crate::entries::put_label;
+use crate::entries::put_link;
 use crate::entries::put_record;
 use crate::entries::put_row;
+use crate::entries::put_station;
 use crate::entries::read_label;
+use crate::entries::read_link;
 use crate::entries::read_record;
 use crate::entries::read_row;
+use crate::entries::read_station;
+use crate::formats::LABEL_BYTES;
+use crate::formats::LINK_BYTES;
+use crate::formats::RECORD_BYTES;
+use crate::formats::ROW_BYTES;
+use crate::formats::STATION_BYTES;
+use crate::meaning::not_memory;
 use crate::packets::put_air;
 use crate::packets::read_air;
-use crate::places::ACTIVE_AT;
 use crate::places::AIR_AT;
 use crate::places::LABELS_AT;
 use crate::places::LINKS_AT;
-use crate::places::NUMBERS_AT;
 use crate::places::RECORDS_AT;
 use crate::places::ROWS_AT;
-use crate::places::SOUGHT_AT;
-use crate::stations::put_flags;
-use crate::stations::put_numbers;
-use crate::stations::read_flags;
-use crate::stations::read_numbers;
-use crate::stations::read_sought;
+use crate::places::SIZE_AT;
+use crate::places::STATIONS_AT;
+use crate::places::VERSION;
 use codec::put_byte;
-use codec::put_bytes;
 use label::label_of;
 use network::Memory;
 use network::Record;
 use network::RequestNumber;
+use network::opening::fresh;
+use rows::Row;
 use rows::empty_row;
 
 // What the table of records is filled with before it is read.
@@ -50,37 +66,126 @@ fn blank_record() -> Record {
     }
 }
 
-// The memory that stands in the bytes. One loop reads the labels, rows and records into tables of its own: every table handed on would
-// be copied.
-pub fn read(bytes: &[u8]) -> Memory
+// The tables of s, m and d.
+pub struct Labels {
+    pub s: [u64; 256],
+    pub m: [u32; 256],
+    pub d: [u32; 256],
+}
+
+fn read_labels(bytes: &[u8]) -> Labels
     requires { ⌜ layoutLength ≤ length (now bytes) ⌝ }
-    ensures { λ r. ⌜ r ≡ storedMemory (now (bytes .entry)) ⌝ }
+    ensures { λ r. ⌜ tabulate 256 (labelOf (r .s) (r .m) (r .d)) ≡ tableAt storedLabel labelWide 256 (now (bytes .entry)) labelsAt ⌝ }
 {
-    let row = empty_row();
-    let record = blank_record();
     let mut s = [0; 256];
     let mut m = [0; 256];
     let mut d = [0; 256];
-    let mut rows = [row; 256];
-    let mut records = [record; 256];
     let mut i = 0;
     while i < 256 {
-        let label = read_label(bytes, LABELS_AT + 16 * i);
+        let label = read_label(bytes, LABELS_AT + LABEL_BYTES * i);
         s[i] = label.s.0;
         m[i] = label.m;
         d[i] = label.d;
-        rows[i] = read_row(bytes, ROWS_AT + 69 * i);
-        records[i] = read_record(bytes, RECORDS_AT + 23 * i);
         i += 1;
     }
-    let air = read_air(bytes, AIR_AT);
-    let numbers = read_numbers(bytes, NUMBERS_AT);
-    let sought = read_sought(bytes, SOUGHT_AT);
-    let mut active = [false; 16];
-    read_flags(bytes, ACTIVE_AT, &mut active);
+    Labels {
+        s: s,
+        m: m,
+        d: d,
+    }
+}
+
+fn read_rows(bytes: &[u8]) -> [Row; 256]
+    requires { ⌜ layoutLength ≤ length (now bytes) ⌝ }
+    ensures { λ r. ⌜ map rowOf r ≡ tableAt storedRow rowWide 256 (now (bytes .entry)) rowsAt ⌝ }
+{
+    let none = empty_row();
+    let mut rows = [none; 256];
+    let mut i = 0;
+    while i < 256 {
+        rows[i] = read_row(bytes, ROWS_AT + ROW_BYTES * i);
+        i += 1;
+    }
+    rows
+}
+
+fn read_records(bytes: &[u8]) -> [Record; 256]
+    requires { ⌜ layoutLength ≤ length (now bytes) ⌝ }
+    ensures { λ r. ⌜ map recordOf r ≡ tableAt storedRecord recordWide 256 (now (bytes .entry)) recordsAt ⌝ }
+{
+    let none = blank_record();
+    let mut records = [none; 256];
+    let mut i = 0;
+    while i < 256 {
+        records[i] = read_record(bytes, RECORDS_AT + RECORD_BYTES * i);
+        i += 1;
+    }
+    records
+}
+
+fn read_links(bytes: &[u8]) -> [bool; 256]
+    requires { ⌜ layoutLength ≤ length (now bytes) ⌝ }
+    ensures { λ r. ⌜ r ≡ tableAt storedLink linkWide 256 (now (bytes .entry)) linksAt ⌝ }
+{
     let mut links = [false; 256];
-    read_flags(bytes, LINKS_AT, &mut links);
-    let n = bytes[0];
+    let mut i = 0;
+    while i < 256 {
+        links[i] = read_link(bytes, LINKS_AT + LINK_BYTES * i);
+        i += 1;
+    }
+    links
+}
+
+// What the stations keep of their own requests.
+pub struct Stations {
+    pub numbers: [RequestNumber; 16],
+    pub sought: [u8; 16],
+    pub active: [bool; 16],
+}
+
+fn read_stations(bytes: &[u8]) -> Stations
+    requires { ⌜ layoutLength ≤ length (now bytes) ⌝ }
+    ensures { λ r. ⌜ (map (λ k. k .0) (r .numbers) ≡ map (λ k. k .number) (storedStations (now (bytes .entry))))
+        × (r .sought ≡ map (λ k. k .sought) (storedStations (now (bytes .entry)))) × (r .active ≡ map (λ k. k .active) (storedStations (now (bytes .entry)))) ⌝ }
+{
+    let none = RequestNumber(0);
+    let mut numbers = [none; 16];
+    let mut sought = [0; 16];
+    let mut active = [false; 16];
+    let mut i = 0;
+    while i < 16 {
+        let kept = read_station(bytes, STATIONS_AT + STATION_BYTES * i);
+        let number = kept.number;
+        numbers[i] = number;
+        sought[i] = kept.sought;
+        active[i] = kept.active;
+        i += 1;
+    }
+    Stations {
+        numbers: numbers,
+        sought: sought,
+        active: active,
+    }
+}
+
+// The memory that the bytes read as.
+fn read(bytes: &[u8]) -> Memory
+    requires { ⌜ layoutLength ≤ length (now bytes) ⌝ }
+    ensures { λ r. ⌜ view r ≡ networkIn (now (bytes .entry)) ⌝ }
+{
+    let air = read_air(bytes, AIR_AT);
+    let labels = read_labels(bytes);
+    let rows = read_rows(bytes);
+    let records = read_records(bytes);
+    let kept = read_stations(bytes);
+    let links = read_links(bytes);
+    let n = bytes[SIZE_AT];
+    let s = labels.s;
+    let m = labels.m;
+    let d = labels.d;
+    let numbers = kept.numbers;
+    let sought = kept.sought;
+    let active = kept.active;
     Memory {
         s: s,
         m: m,
@@ -96,27 +201,89 @@ pub fn read(bytes: &[u8]) -> Memory
     }
 }
 
-// What stands before the labels: n, what each station keeps, and the links.
-fn write_head(
-    out: &mut [u8],
-    n: u8,
-    numbers: [RequestNumber; 16],
-    sought: [u8; 16],
-    active: [bool; 16],
-    links: [bool; 256],
-)
-    requires { ⌜ labelsAt ≤ length (now out) ⌝ }
-    ensures { λ _. ⌜ now (out .exit) ≡ sets (now (out .entry)) 0 (headBytes n (map (λ k. k .0) numbers) sought active links) ⌝ }
-    ensures { λ _. ⌜ HeadFits (map (λ k. k .0) numbers) sought active links ⌝ }
+// The memory that stands in the bytes. Those that hold none give memory of no stations, which is out of range.
+pub fn load(bytes: &[u8]) -> Memory
+    ensures { λ r. ⌜ view r ≡ storedNetwork (now (bytes .entry)) ⌝ }
 {
-    put_byte(out, 0, n);
-    put_numbers(out, NUMBERS_AT, numbers);
-    put_bytes(out, SOUGHT_AT, &sought);
-    put_flags(out, ACTIVE_AT, &active);
-    put_flags(out, LINKS_AT, &links);
+    if not_memory(bytes) {
+        return fresh(0, 0);
+    }
+    read(bytes)
 }
 
-// The memory's bytes at the start of the lent array; the others are kept. One loop writes the labels, rows and records from where they stand.
+fn write_stations(out: &mut [u8], kept: Stations)
+    requires { ⌜ layoutLength ≤ length (now out) ⌝ }
+    ensures { λ _. ⌜ (now (out .exit) ≡ sets (now (out .entry)) stationsAt (flatMap stationBytes (stationsFrom kept)))
+        × TableFits 16 zeroStation (Fits stationFormat) (stationsFrom kept) ⌝ }
+{
+    let mut i = 0;
+    while i < 16 {
+        let number = kept.numbers[i];
+        let sought = kept.sought[i];
+        let active = kept.active[i];
+        let station = Station {
+            number: number,
+            sought: sought,
+            active: active,
+        };
+        put_station(out, STATIONS_AT + STATION_BYTES * i, station);
+        i += 1;
+    }
+}
+
+fn write_links(out: &mut [u8], links: [bool; 256])
+    requires { ⌜ layoutLength ≤ length (now out) ⌝ }
+    ensures { λ _. ⌜ (now (out .exit) ≡ sets (now (out .entry)) linksAt (flatMap linkBytes links)) × TableFits 256 false (Fits linkFormat) links ⌝ }
+{
+    let mut i = 0;
+    while i < 256 {
+        put_link(out, LINKS_AT + LINK_BYTES * i, links[i]);
+        i += 1;
+    }
+}
+
+fn write_labels(out: &mut [u8], s: [u64; 256], m: [u32; 256], d: [u32; 256])
+    requires { ⌜ layoutLength ≤ length (now out) ⌝ }
+    ensures { λ _. ⌜ (now (out .exit) ≡ sets (now (out .entry)) labelsAt (flatMap labelBytes (tabulate 256 (labelOf s m d))))
+        × TableFits 256 zeroLabel (Fits labelFormat) (tabulate 256 (labelOf s m d)) ⌝ }
+{
+    let mut i = 0;
+    while i < 256 {
+        put_label(
+            out,
+            LABELS_AT + LABEL_BYTES * i,
+            label_of(s[i], m[i], d[i]),
+        );
+        i += 1;
+    }
+}
+
+fn write_rows(out: &mut [u8], rows: [Row; 256])
+    requires { ⌜ layoutLength ≤ length (now out) ⌝ }
+    ensures { λ _. ⌜ (now (out .exit) ≡ sets (now (out .entry)) rowsAt (flatMap rowBytes (map rowOf rows))) × TableFits 256 [] RowFits (map rowOf rows) ⌝ }
+{
+    let mut i = 0;
+    while i < 256 {
+        let row = rows[i];
+        put_row(out, ROWS_AT + ROW_BYTES * i, row);
+        i += 1;
+    }
+}
+
+fn write_records(out: &mut [u8], records: [Record; 256])
+    requires { ⌜ layoutLength ≤ length (now out) ⌝ }
+    ensures { λ _. ⌜ (now (out .exit) ≡ sets (now (out .entry)) recordsAt (flatMap recordBytes (map recordOf records)))
+        × TableFits 256 zeroRecord (Fits recordFormat) (map recordOf records) ⌝ }
+{
+    let mut i = 0;
+    while i < 256 {
+        let record = records[i];
+        put_record(out, RECORDS_AT + RECORD_BYTES * i, record);
+        i += 1;
+    }
+}
+
+// The memory's bytes at the start of the lent array; the others are kept.
 pub fn write(out: &mut [u8], memory: Memory)
     requires { ⌜ layoutLength ≤ length (now out) ⌝ }
     ensures { λ _. ⌜ (now (out .exit) ≡ over (networkBytes (view memory)) (now (out .entry))) × NetworkFits (view memory) ⌝ }
@@ -126,19 +293,23 @@ pub fn write(out: &mut [u8], memory: Memory)
     let sought = memory.sought;
     let active = memory.active;
     let links = memory.links;
-    write_head(out, n, numbers, sought, active, links);
-    let mut i = 0;
-    while i < 256 {
-        let s = memory.s[i];
-        let m = memory.m[i];
-        let d = memory.d[i];
-        let row = memory.rows[i];
-        let record = memory.records[i];
-        put_label(out, LABELS_AT + 16 * i, label_of(s, m, d));
-        put_row(out, ROWS_AT + 69 * i, row);
-        put_record(out, RECORDS_AT + 23 * i, record);
-        i += 1;
-    }
+    let s = memory.s;
+    let m = memory.m;
+    let d = memory.d;
+    let rows = memory.rows;
+    let records = memory.records;
     let air = memory.air;
+    let kept = Stations {
+        numbers: numbers,
+        sought: sought,
+        active: active,
+    };
+    put_byte(out, 0, VERSION);
+    put_byte(out, SIZE_AT, n);
+    write_stations(out, kept);
+    write_links(out, links);
+    write_labels(out, s, m, d);
+    write_rows(out, rows);
+    write_records(out, records);
     put_air(out, AIR_AT, air);
 }

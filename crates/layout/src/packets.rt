@@ -1,53 +1,89 @@
-// Packets in bytes.
+// Packets in bytes, by their format.
 ghost use mathlib.Core.Path.{_≡_};
-ghost use mathlib.Core.List.{[], _∷_};
 ghost use Prim.Native.Nat.{_+_, _≤_};
 ghost use lib.ListN.{length};
 ghost use lib.Seq.{sets};
 ghost use Rattle.base.specs.Choice.{if_then_else_};
-ghost use Rattle.model.specs.Memory.{zeroPacket};
+ghost use Rattle.codec.specs.Fields.{widths, values, AllFit, Fits};
+ghost use Rattle.model.specs.Memory.{zeroPacket, airLimit};
 ghost use Rattle.network.specs.View.{bodyOf, packetOf, airOf};
-ghost use Rattle.layout.specs.Stored.{storedPacket, storedAir};
-ghost use Rattle.layout.specs.Written.{bare, fieldsOf, packetBytes, airBytes};
-ghost use Rattle.layout.specs.Fits.{BodyFits, AirFits};
-use crate::entries::flag;
-use crate::entries::put_label;
-use crate::entries::put_request_number;
-use crate::entries::read_label;
-use codec::number_at;
+ghost use Rattle.layout.specs.Formats.{packetFormat, packetFrom, packetWide, airWide, bare, plainOf, Known};
+ghost use Rattle.layout.specs.Stored.{storedFields, storedAir};
+ghost use Rattle.layout.specs.Written.{packetBytes, airBytes};
+ghost use Rattle.layout.specs.Fits.{PacketFits};
+ghost use Rattle.codec.specs.Tables.{CountedFits};
+use crate::formats::PACKET_BYTES;
+use crate::formats::PACKET_WIDTHS;
+use codec::get_fields;
 use codec::put_byte;
-use codec::put_number;
-use label::label_of;
+use codec::put_fields;
+use label::Label;
+use label::SequenceNumber;
 use network::AIR_LIMIT;
 use network::Air;
 use network::Packet;
 use network::RequestNumber;
 
-// The packet at a place.
-pub fn read_packet(bytes: &[u8], at: usize) -> Packet
-    requires { ⌜ at + 28 ≤ length (now bytes) ⌝ }
-    ensures { λ r. ⌜ r ≡ storedPacket (now (bytes .entry)) at ⌝ }
+// The packet with these values, and the values of a packet.
+pub fn packet_from(v: [u64; 11]) -> Packet
+    requires { ⌜ AllFit (widths packetFormat) v ⌝ }
+    ensures { λ r. ⌜ r ≡ packetFrom v ⌝ }
 {
-    let sender = bytes[at];
-    let receiver = bytes[at + 1];
-    let kind = bytes[at + 2];
-    let source = bytes[at + 3];
-    let number = number_at(bytes, at + 4, 4) as u32;
-    let destination = bytes[at + 8];
-    let label = read_label(bytes, at + 9);
-    let reset = bytes[at + 25] == 1;
-    let mask = number_at(bytes, at + 26, 2) as u16;
     Packet {
-        label: label,
-        number: RequestNumber(number),
-        mask: mask,
-        kind: kind,
-        sender: sender,
-        receiver: receiver,
-        source: source,
-        destination: destination,
-        reset: reset,
+        label: Label {
+            s: SequenceNumber(v[6]),
+            m: v[7] as u32,
+            d: v[8] as u32,
+        },
+        number: RequestNumber(v[4] as u32),
+        mask: v[10] as u16,
+        kind: v[2] as u8,
+        sender: v[0] as u8,
+        receiver: v[1] as u8,
+        source: v[3] as u8,
+        destination: v[5] as u8,
+        reset: v[9] == 1,
     }
+}
+
+fn packet_values(p: Packet) -> [u64; 11]
+    ensures { λ r. ⌜ (r ≡ values packetFormat p) × Fits packetFormat p ⌝ }
+{
+    let sender = p.sender;
+    let receiver = p.receiver;
+    let kind = p.kind;
+    let source = p.source;
+    let number = p.number.0;
+    let destination = p.destination;
+    let s = p.label.s.0;
+    let m = p.label.m;
+    let d = p.label.d;
+    let reset = p.reset;
+    let mask = p.mask;
+    [
+        sender as u64,
+        receiver as u64,
+        kind as u64,
+        source as u64,
+        number as u64,
+        destination as u64,
+        s,
+        m as u64,
+        d as u64,
+        reset as u64,
+        mask as u64,
+    ]
+}
+
+// The packet at a place, with all its fields.
+pub fn read_packet(bytes: &[u8], at: usize) -> Packet
+    requires { ⌜ at + packetWide ≤ length (now bytes) ⌝ }
+    ensures { λ r. ⌜ r ≡ storedFields (now (bytes .entry)) at ⌝ }
+{
+    let widths = PACKET_WIDTHS;
+    let mut v = [0; 11];
+    get_fields(bytes, at, &widths, &mut v);
+    packet_from(v)
 }
 
 // A packet with nothing but sender, receiver, kind and mask.
@@ -55,7 +91,11 @@ fn bare(sender: u8, receiver: u8, kind: u8, mask: u16) -> Packet
     ensures { λ r. ⌜ r ≡ bare sender receiver kind mask ⌝ }
 {
     Packet {
-        label: label_of(0, 0, 0),
+        label: Label {
+            s: SequenceNumber(0),
+            m: 0,
+            d: 0,
+        },
         number: RequestNumber(0),
         mask: mask,
         kind: kind,
@@ -69,7 +109,7 @@ fn bare(sender: u8, receiver: u8, kind: u8, mask: u16) -> Packet
 
 // The packet with zeros in the fields that its kind doesn't use.
 fn plain(p: Packet) -> Packet
-    ensures { λ r. ⌜ (fieldsOf r ≡ packetBytes (packetOf p)) × BodyFits (bodyOf p) ⌝ }
+    ensures { λ r. ⌜ (r ≡ plainOf (packetOf p)) × Known (bodyOf p) ⌝ }
 {
     let kind = p.kind;
     let sender = p.sender;
@@ -90,43 +130,13 @@ fn plain(p: Packet) -> Packet
     bare(sender, receiver, kind, 0)
 }
 
-fn put_four(out: &mut [u8], at: usize, a: u8, b: u8, c: u8, d: u8)
-    requires { ⌜ at + 4 ≤ length (now out) ⌝ }
-    ensures { λ _. ⌜ now (out .exit) ≡ sets (now (out .entry)) at (a ∷ b ∷ c ∷ d ∷ []) ⌝ }
-{
-    put_byte(out, at, a);
-    put_byte(out, at + 1, b);
-    put_byte(out, at + 2, c);
-    put_byte(out, at + 3, d);
-}
-
-// Every field of a packet.
-fn put_fields(out: &mut [u8], at: usize, p: Packet)
-    requires { ⌜ at + 28 ≤ length (now out) ⌝ }
-    ensures { λ _. ⌜ now (out .exit) ≡ sets (now (out .entry)) at (fieldsOf p) ⌝ }
-{
-    let sender = p.sender;
-    let receiver = p.receiver;
-    let kind = p.kind;
-    let source = p.source;
-    let number = p.number;
-    let destination = p.destination;
-    let label = p.label;
-    let reset = p.reset;
-    let mask = p.mask;
-    put_four(out, at, sender, receiver, kind, source);
-    put_request_number(out, at + 4, number);
-    put_byte(out, at + 8, destination);
-    put_label(out, at + 9, label);
-    put_byte(out, at + 25, flag(reset));
-    put_number(out, at + 26, 2, mask as u64);
-}
-
 pub fn put_packet(out: &mut [u8], at: usize, p: Packet)
-    requires { ⌜ at + 28 ≤ length (now out) ⌝ }
-    ensures { λ _. ⌜ (now (out .exit) ≡ sets (now (out .entry)) at (packetBytes (packetOf p))) × BodyFits (bodyOf p) ⌝ }
+    requires { ⌜ at + packetWide ≤ length (now out) ⌝ }
+    ensures { λ _. ⌜ (now (out .exit) ≡ sets (now (out .entry)) at (packetBytes (packetOf p))) × PacketFits (packetOf p) ⌝ }
 {
-    put_fields(out, at, plain(p));
+    let widths = PACKET_WIDTHS;
+    let v = packet_values(plain(p));
+    put_fields(out, at, &widths, &v);
 }
 
 // A packet that is counted, or zeros.
@@ -141,26 +151,27 @@ fn counted(p: Packet, there: bool) -> Packet
 
 // The packets in the air, at a place.
 pub fn read_air(bytes: &[u8], at: usize) -> Air
-    requires { ⌜ at + 3585 ≤ length (now bytes) ⌝ }
-    ensures { λ r. ⌜ r ≡ storedAir (now (bytes .entry)) at ⌝ }
+    requires { ⌜ at + airWide ≤ length (now bytes) ⌝ }
+    ensures { λ r. ⌜ airOf r ≡ storedAir (now (bytes .entry)) at ⌝ }
 {
     let none = bare(0, 0, 0, 0);
-    let mut packets = [none; AIR_LIMIT as usize];
-    let mut k = 0;
-    while k < AIR_LIMIT as usize {
-        packets[k] = read_packet(bytes, at + 1 + 28 * k);
-        k += 1;
-    }
+    let packets = [none; AIR_LIMIT as usize];
     let count = bytes[at];
-    Air {
+    let mut air = Air {
         packets: packets,
         count: count,
+    };
+    let mut k = 0;
+    while k < AIR_LIMIT as usize {
+        air.packets[k] = read_packet(bytes, at + 1 + PACKET_BYTES * k);
+        k += 1;
     }
+    air
 }
 
 pub fn put_air(out: &mut [u8], at: usize, air: Air)
-    requires { ⌜ at + 3585 ≤ length (now out) ⌝ }
-    ensures { λ _. ⌜ (now (out .exit) ≡ sets (now (out .entry)) at (airBytes (airOf air))) × AirFits (airOf air) ⌝ }
+    requires { ⌜ at + airWide ≤ length (now out) ⌝ }
+    ensures { λ _. ⌜ (now (out .exit) ≡ sets (now (out .entry)) at (airBytes (airOf air))) × CountedFits airLimit zeroPacket PacketFits (airOf air) ⌝ }
 {
     let count = air.count;
     put_byte(out, at, count);
@@ -168,7 +179,7 @@ pub fn put_air(out: &mut [u8], at: usize, air: Air)
     let mut k = 0;
     while k < AIR_LIMIT as usize {
         let p = air.packets[k];
-        put_packet(out, at + 1 + 28 * k, counted(p, k < limit));
+        put_packet(out, at + 1 + PACKET_BYTES * k, counted(p, k < limit));
         k += 1;
     }
 }

@@ -1,20 +1,28 @@
 // Where the parts of the memory begin, and its length (docs/LAYOUT.md, specs/Places.antt).
-pub const NUMBERS_AT: usize = 1;
+use crate::formats::AIR_BYTES;
+use crate::formats::LABEL_BYTES;
+use crate::formats::LINK_BYTES;
+use crate::formats::RECORD_BYTES;
+use crate::formats::ROW_BYTES;
+use crate::formats::STATION_BYTES;
 
-pub const SOUGHT_AT: usize = 65;
+// The layout's number.
+pub const VERSION: u8 = 17;
 
-pub const ACTIVE_AT: usize = 81;
+pub const SIZE_AT: usize = 1;
 
-pub const LINKS_AT: usize = 97;
+pub const STATIONS_AT: usize = SIZE_AT + 1;
 
-pub const LABELS_AT: usize = 353;
+pub const LINKS_AT: usize = STATIONS_AT + STATION_BYTES * 16;
 
-pub const ROWS_AT: usize = 4449;
+pub const LABELS_AT: usize = LINKS_AT + LINK_BYTES * 256;
 
-pub const RECORDS_AT: usize = 22113;
+pub const ROWS_AT: usize = LABELS_AT + LABEL_BYTES * 256;
 
-pub const AIR_AT: usize = 28001;
+pub const RECORDS_AT: usize = ROWS_AT + ROW_BYTES * 256;
 
-pub const PACKETS_AT: usize = 28002;
+pub const AIR_AT: usize = RECORDS_AT + RECORD_BYTES * 256;
 
-pub const LENGTH: usize = 31586;
+pub const PACKETS_AT: usize = AIR_AT + 1;
+
+pub const LENGTH: usize = AIR_AT + AIR_BYTES;

@@ -74,6 +74,7 @@ memory-lengths m valid = record {
   d-length = unmapped _ (m .d) 256 (valid .1 .1 .1 .1 .0 .1 .0 .1);
   rows-length = unmapped _ (m .rows) 256 (valid .1 .1 .1 .1 .1 .0 .1 .0 .1);
   records-length = unmapped _ (m .records) 256 (valid .1 .1 .1 .1 .1 .1 .0 .1 .0 .1);
+  numbers-length = unmapped _ (m .numbers) 16 (valid .1 .1 .1 .1 .1 .1 .1 .0 .1 .0 .1);
   sought-length = unmapped _ (m .sought) 16 (valid .1 .1 .1 .1 .1 .1 .1 .1 .0 .1 .0 .1);
   active-length = unmapped _ (m .active) 16 (valid .1 .1 .1 .1 .1 .1 .1 .1 .1 .0 .1 .0 .1);
   air-length = unmapped _ (m .air .packets) airLimit (valid .1 .1 .1 .1 .1 .1 .1 .1 .1 .1 .1 .0 .1 .1 .0 .1 .0 .1);

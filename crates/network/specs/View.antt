@@ -82,6 +82,7 @@ pub record Lengths (m : Memory) : Type 0 where
   pub d-length : length (m .d) ≡ 256
   pub rows-length : length (m .rows) ≡ 256
   pub records-length : length (m .records) ≡ 256
+  pub numbers-length : length (m .numbers) ≡ 16
   pub sought-length : length (m .sought) ≡ 16
   pub active-length : length (m .active) ≡ 16
   pub air-length : length (m .air .packets) ≡ model.airLimit

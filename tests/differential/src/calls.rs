@@ -2,7 +2,7 @@
 
 use reference::calls::{Answer, Drained};
 use reference::label::Label;
-use reference::network::{Network, Packet, Preview, Record, Row, ERROR, LENGTH};
+use reference::network::{Network, Packet, Preview, Record, Row, Station, ERROR, LENGTH};
 use reference::printout::put_event;
 use reference::script;
 use std::mem::{offset_of, size_of};
@@ -65,6 +65,31 @@ macro_rules! made_by {
 
 made_by!(by_library: library);
 made_by!(by_reference: reference::console);
+
+/// Every call but Open, each with these stations and this packet.
+pub fn calls_but_open(a: usize, b: usize, k: usize) -> [Call; 19] {
+    [
+        Call::Up(a, b),
+        Call::Down(a, b),
+        Call::Solicit(a, b),
+        Call::GiveUp(a),
+        Call::Expire(a, b),
+        Call::Deliver(k),
+        Call::Lose(k),
+        Call::Duplicate(k),
+        Call::Drain,
+        Call::Trace(a, b),
+        Call::Size,
+        Call::Air,
+        Call::Link(a, b),
+        Call::Label(a, b),
+        Call::Row(a, b),
+        Call::Record(a, b),
+        Call::Station(a),
+        Call::Packet(k),
+        Call::Preview(k),
+    ]
+}
 
 /// The call of an event.
 pub fn call_of(kind: u8, a: u8, b: u8) -> Call {
@@ -320,11 +345,10 @@ fn difference(library: &[u8], reference: &[u8]) -> String {
 /// What a byte of the layout belongs to.
 pub fn place(at: usize) -> String {
     /// Tables: name, first byte, bytes of an entry, and whether it is held by one station for another.
-    const TABLES: [(&str, usize, usize, bool); 9] = [
+    const TABLES: [(&str, usize, usize, bool); 8] = [
+        ("version", offset_of!(Network, version), 1, false),
         ("n", offset_of!(Network, n), 1, false),
-        ("last request number", offset_of!(Network, numbers), 4, false),
-        ("destination last sought", offset_of!(Network, sought), 1, false),
-        ("active", offset_of!(Network, active), 1, false),
+        ("station", offset_of!(Network, kept), size_of::<Station>(), false),
         ("link", offset_of!(Network, links), 1, true),
         ("label", offset_of!(Network, labels), 16, true),
         ("row", offset_of!(Network, rows), size_of::<Row>(), true),

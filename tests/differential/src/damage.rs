@@ -6,7 +6,9 @@ use crate::random::Random;
 use crate::scripts::{script_of, Script};
 use crate::tally::Tally;
 use reference::label::{Label, UNASSIGNED};
-use reference::network::{Bytes, Network, Packet, Record, Row, Successor, ERROR, LENGTH, MAX_STATIONS, NO_PACKET, NO_ROW, REPLY, REQUEST};
+use reference::network::{
+    Bytes, Network, Packet, Record, Row, Station, Successor, ERROR, LENGTH, MAX_STATIONS, NO_PACKET, NO_ROW, REPLY, REQUEST,
+};
 use std::mem::{offset_of, size_of};
 
 /// A byte of the layout, mostly one that tells something of a network of n stations with packets in the air.
@@ -15,17 +17,17 @@ fn some_byte(random: &mut Random, network: &Network) -> usize {
     let pair = MAX_STATIONS * random.below(n) + random.below(n);
     let packet = random.below(usize::from(network.in_air).max(1));
     let station = random.below(n);
-    let (pick, anywhere) = (random.below(13), random.below(LENGTH));
+    let (pick, anywhere) = (random.below(14), random.below(LENGTH));
     // A byte of an entry of a table: one of those that are named, or any.
     let mut of = |table: usize, size: usize, place: usize, named: &[usize]| {
         table + size * place + if random.percent(50) { random.of(named) } else { random.below(size) }
     };
+    let kept = [offset_of!(Station, sought), offset_of!(Station, active)];
     let row = [0, 1, 2, 3].map(|entry| offset_of!(Row, entries) + size_of::<Successor>() * entry);
     let record = [offset_of!(Record, destination), offset_of!(Record, last_hop), offset_of!(Record, passed)];
     let fields = [offset_of!(Packet, sender), offset_of!(Packet, receiver), offset_of!(Packet, kind), offset_of!(Packet, reset)];
     match pick {
-        0 => offset_of!(Network, sought) + station,
-        1 => offset_of!(Network, active) + station,
+        0 | 1 => of(offset_of!(Network, kept), size_of::<Station>(), station, &kept),
         2 => offset_of!(Network, links) + pair,
         3 => of(offset_of!(Network, labels), size_of::<Label>(), pair, &[0]),
         4 => offset_of!(Network, rows) + size_of::<Row>() * pair + offset_of!(Row, count),
@@ -34,12 +36,13 @@ fn some_byte(random: &mut Random, network: &Network) -> usize {
         8 | 9 => of(offset_of!(Network, packets), size_of::<Packet>(), packet, &fields),
         10 => offset_of!(Network, n),
         11 => offset_of!(Network, in_air),
+        12 => offset_of!(Network, version),
         _ => anywhere,
     }
 }
 
 /// The network after a script, or a random one.
-fn whole_network(random: &mut Random, case: usize, examples: &[Script]) -> Box<Network> {
+pub fn whole_network(random: &mut Random, case: usize, examples: &[Script]) -> Box<Network> {
     if random.percent(50) {
         return some_network(random);
     }
@@ -70,7 +73,7 @@ fn row_of(network: &mut Network, i: usize, t: usize) -> &mut Row {
 }
 
 /// How many ways there are to break a network.
-const CLAUSES: usize = 37;
+const CLAUSES: usize = 38;
 
 /// Breaks one clause of 01's "Memory is in range if ..", or one of docs/LAYOUT.md's on bytes that have no meaning.
 fn break_clause(random: &mut Random, network: &mut Network, clause: usize) {
@@ -83,8 +86,8 @@ fn break_clause(random: &mut Random, network: &mut Network, clause: usize) {
         random.of(&[Label::new(0, 0, 1), Label::new(0, 1, 2), Label::new(0, 0, 0), Label::new(1, 1, 1), Label::new(u64::MAX, 3, 2)]);
     match clause {
         0 => network.n = random.of(&[0, 1, 17, 18, 255]),
-        1 => network.sought[i] = station,
-        2 => network.active[i] = flag,
+        1 => network.kept[i].sought = station,
+        2 => network.kept[i].active = flag,
         3 => network.links[i.min(t)][i.max(t)] = flag,
         4 => network.labels[i][t] = no_label,
         5 => network.labels[i][i].s = 0,
@@ -122,6 +125,7 @@ fn break_clause(random: &mut Random, network: &mut Network, clause: usize) {
         33 => packet_of(random, network, ERROR).source = 1,
         34 => packet_of(random, network, ERROR).destination = 1,
         35 => packet_of(random, network, ERROR).reset = 1,
+        36 => network.version = random.of(&[0, 1, n as u8, 16, 18, 19, 145, 255]),
         // A mask with a bit for no station; with 16 stations there is none.
         _ if n < MAX_STATIONS => packet_of(random, network, ERROR).mask = 1 << random.between(n, MAX_STATIONS - 1),
         _ => network.n = 0,

@@ -10,3 +10,4 @@ pub mod rows;
 pub mod script_bytes;
 pub mod scripts;
 pub mod tally;
+pub mod versions;

@@ -10,7 +10,7 @@
 use differential::random::Random;
 use differential::scripts::{self, Script};
 use differential::tally::{Tally, ANSWERS};
-use differential::{damage, labels, networks, program, rows, script_bytes};
+use differential::{damage, labels, networks, program, rows, script_bytes, versions};
 use std::panic::{catch_unwind, AssertUnwindSafe};
 use std::process::ExitCode;
 use std::sync::atomic::{AtomicBool, AtomicU64, AtomicUsize, Ordering::Relaxed};
@@ -45,7 +45,7 @@ const TRIPLES: usize = 10_000;
 
 fn families() -> Vec<Family> {
     let scripts = examples();
-    let [for_damage, for_memory, for_clauses] = [(); 3].map(|()| scripts.clone());
+    let [for_damage, for_memory, for_clauses, for_versions] = [(); 4].map(|()| scripts.clone());
     vec![
         Family {
             name: "labels",
@@ -92,6 +92,14 @@ fn families() -> Vec<Family> {
             check: Box::new(networks::check_lengths),
             meets: &[0, 1],
             previews: &[1, 6],
+            drains: false,
+        },
+        Family {
+            name: "versions",
+            cases: 512,
+            check: Box::new(move |case| versions::check(case, &for_versions)),
+            meets: &[0, 1],
+            previews: &[1],
             drains: false,
         },
         Family {

@@ -5,8 +5,8 @@ use crate::random::Random;
 use crate::tally::Tally;
 use reference::label::{Label, UNASSIGNED};
 use reference::network::{
-    Bytes, Network, Packet, Record, Row, Successor, ERROR, LENGTH, MAX_PACKETS, MAX_STATIONS, MAX_SUCCESSORS, NO_PACKET, NO_ROW, REPLY,
-    REQUEST,
+    Bytes, Network, Packet, Record, Row, Station, Successor, ERROR, LENGTH, MAX_PACKETS, MAX_STATIONS, MAX_SUCCESSORS, NO_PACKET, NO_ROW,
+    REPLY, REQUEST, VERSION,
 };
 
 /// The numbers that a network's labels are made of: few, so that equal and neighbouring ones meet.
@@ -80,7 +80,7 @@ fn some_packet(random: &mut Random, palette: &Palette, network: &Network) -> Pac
     }
     let source = random.below(n);
     let known = if source == receiver {
-        (network.numbers[receiver], network.sought[receiver])
+        (network.kept[receiver].number, network.kept[receiver].sought)
     } else {
         (network.records[receiver][source].number, network.records[receiver][source].destination)
     };
@@ -105,14 +105,13 @@ pub fn some_network(random: &mut Random) -> Box<Network> {
         let mut bytes = vec![0; LENGTH];
         random.fill(&mut bytes);
         *network = *Network::of(&bytes).unwrap();
+        network.version = VERSION;
         network.n = n as u8;
     }
     let density = random.of(&[0, 20, 50, 90, 100]);
     let rows = random.of(&[30, 70, 100]);
     for i in 0..n {
-        network.numbers[i] = some_number(random);
-        network.sought[i] = random.below(n) as u8;
-        network.active[i] = u8::from(random.percent(40));
+        network.kept[i] = Station { number: some_number(random), sought: random.below(n) as u8, active: u8::from(random.percent(40)) };
         for t in 0..n {
             if i < t {
                 network.links[i][t] = u8::from(random.percent(density));

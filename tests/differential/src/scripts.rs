@@ -116,8 +116,8 @@ impl Growing {
         let chosen = match kind {
             UP => random.among(pairs().filter(|&(a, b)| !network.link(a, b))),
             DOWN => random.among(pairs().filter(|&(a, b)| network.link(a, b))),
-            SOLICIT => random.among(pairs().filter(|&(a, _)| network.active[a] == 0)),
-            GIVE_UP => random.among((0..n).filter(|&a| network.active[a] == 1).map(|a| (a, 0))),
+            SOLICIT => random.among(pairs().filter(|&(a, _)| network.kept[a].active == 0)),
+            GIVE_UP => random.among((0..n).filter(|&a| network.kept[a].active == 1).map(|a| (a, 0))),
             EXPIRE => random.among(pairs().filter(|&(a, t)| !network.rows[a][t].is_empty())),
             DELIVER | LOSE | DUPLICATE => self.some_packet(random, style).map(|k| (k, 0)),
             _ if random.percent(30) => random.among(pairs()),

@@ -2,7 +2,9 @@
 //! before it writes anything; the tests come in 01's order: 2, 3 to 6, 8, 7.
 
 use crate::label::{new_label, Label, UNASSIGNED};
-use crate::network::{Network, Packet, Preview, Record, Successor, ERROR, MAX_PACKETS, NO_PACKET, NO_PREVIEW, NO_ROW, REPLY, REQUEST};
+use crate::network::{
+    Network, Packet, Preview, Record, Station, Successor, ERROR, MAX_PACKETS, NO_PACKET, NO_PREVIEW, NO_ROW, REPLY, REQUEST,
+};
 
 /// What an accepted call tells: its outcome number (0: none), the packets that it sent, and Trace's hops.
 #[derive(Clone, Copy, PartialEq, Eq, Debug)]
@@ -88,23 +90,21 @@ impl Network {
     /// "number + 1, t kept as last sought, a active, broadcasts a request with its label for t, reset bit 0".
     pub fn solicit(&mut self, a: usize, t: usize) -> Answer {
         self.test_pair(a, t)?;
-        refused_if(self.active[a] == 1, 4)?;
-        refused_if(self.numbers[a] == u32::MAX, 8)?;
+        refused_if(self.kept[a].active == 1, 4)?;
+        refused_if(self.kept[a].number == u32::MAX, 8)?;
         let sent = self.neighbours(a).count();
         self.test_room(0, sent)?;
-        self.numbers[a] += 1;
-        self.sought[a] = t as u8;
-        self.active[a] = 1;
-        let request =
-            Packet { kind: REQUEST, source: a as u8, number: self.numbers[a], destination: t as u8, label: self.labels[a][t], ..NO_PACKET };
+        let number = self.kept[a].number + 1;
+        self.kept[a] = Station { number, sought: t as u8, active: 1 };
+        let request = Packet { kind: REQUEST, source: a as u8, number, destination: t as u8, label: self.labels[a][t], ..NO_PACKET };
         self.broadcast(a, request);
         done(0, sent)
     }
 
     pub fn give_up(&mut self, a: usize) -> Answer {
         self.test_station(a)?;
-        refused_if(self.active[a] == 0, 5)?;
-        self.active[a] = 0;
+        refused_if(self.kept[a].active == 0, 5)?;
+        self.kept[a].active = 0;
         done(0, 0)
     }
 
@@ -211,8 +211,11 @@ impl Network {
         // "111, nothing done, if i is the destination, or V's number and destination don't both match (at the source: its last request;
         // elsewhere: its record). C is unassigned at the source, else the record's."
         let record = self.records[i][source];
-        let (number, destination, cached) =
-            if i == source { (self.numbers[i], self.sought[i], UNASSIGNED) } else { (record.number, record.destination, record.cached) };
+        let (number, destination, cached) = if i == source {
+            (self.kept[i].number, self.kept[i].sought, UNASSIGNED)
+        } else {
+            (record.number, record.destination, record.cached)
+        };
         if i == t || v.number != number || v.destination != destination {
             return done(111, 0);
         }
@@ -225,7 +228,7 @@ impl Network {
                 row.keep_below(label);
                 row.put(Successor { station: v.sender, label: v.label });
                 if i == source {
-                    self.active[i] = 0;
+                    self.kept[i].active = 0;
                 }
                 115
             }

@@ -148,8 +148,7 @@ pub fn record(memory: &[u8], i: usize, source: usize, out: &mut [u8]) -> u64 {
 pub fn station(memory: &[u8], i: usize, out: &mut [u8]) -> u64 {
     shown(ranged(memory).and_then(|network| {
         network.test_station(i)?;
-        let [b0, b1, b2, b3] = network.numbers[i].to_le_bytes();
-        put(&[b0, b1, b2, b3, network.sought[i], network.active[i]], out)
+        put(network.kept[i].bytes(), out)
     }))
 }
 

@@ -7,9 +7,21 @@ pub const MAX_STATIONS: usize = 16;
 pub const MAX_SUCCESSORS: usize = 4;
 pub const MAX_PACKETS: usize = 128;
 
+/// What the first byte of the layout is.
+pub const VERSION: u8 = 17;
+
 pub const REQUEST: u8 = 1;
 pub const REPLY: u8 = 2;
 pub const ERROR: u8 = 3;
+
+/// What a station keeps of its own searches.
+#[repr(C, packed)]
+#[derive(Clone, Copy, PartialEq, Eq, Debug)]
+pub struct Station {
+    pub number: u32,
+    pub sought: u8,
+    pub active: u8,
+}
 
 /// An entry of a row: a station with the label that it advertised.
 #[repr(C, packed)]
@@ -63,10 +75,10 @@ pub struct Preview {
 #[repr(C, packed)]
 #[derive(Clone, Copy, PartialEq, Eq, Debug)]
 pub struct Network {
+    pub version: u8,
     pub n: u8,
-    pub numbers: [u32; MAX_STATIONS],
-    pub sought: [u8; MAX_STATIONS],
-    pub active: [u8; MAX_STATIONS],
+    /// What each station keeps.
+    pub kept: [Station; MAX_STATIONS],
     /// The link of a and b is at \[a]\[b] for a below b.
     pub links: [[u8; MAX_STATIONS]; MAX_STATIONS],
     pub labels: [[Label; MAX_STATIONS]; MAX_STATIONS],
@@ -77,7 +89,7 @@ pub struct Network {
 }
 
 pub const LENGTH: usize = size_of::<Network>();
-const _: () = assert!(LENGTH == 31_586 && align_of::<Network>() == 1 && cfg!(target_endian = "little"));
+const _: () = assert!(LENGTH == 31_587 && align_of::<Network>() == 1 && cfg!(target_endian = "little"));
 
 /// The bytes of an entry as the layout has them.
 ///
@@ -89,6 +101,7 @@ pub unsafe trait Bytes: Sized {
     }
 }
 
+unsafe impl Bytes for Station {}
 unsafe impl Bytes for Label {}
 unsafe impl Bytes for Row {}
 unsafe impl Bytes for Record {}
@@ -96,6 +109,7 @@ unsafe impl Bytes for Packet {}
 unsafe impl Bytes for Preview {}
 unsafe impl Bytes for Network {}
 
+pub const NO_STATION: Station = Station { number: 0, sought: 0, active: 0 };
 pub const NO_LABEL: Label = Label::new(0, 0, 0);
 pub const NO_SUCCESSOR: Successor = Successor { station: 0, label: NO_LABEL };
 pub const NO_ROW: Row = Row { count: 0, entries: [NO_SUCCESSOR; MAX_SUCCESSORS] };
@@ -105,10 +119,9 @@ pub const NO_PACKET: Packet =
 pub const NO_PREVIEW: Preview = Preview { label: NO_LABEL, row: NO_ROW, mask: 0 };
 
 pub const NO_NETWORK: Network = Network {
+    version: VERSION,
     n: 0,
-    numbers: [0; MAX_STATIONS],
-    sought: [0; MAX_STATIONS],
-    active: [0; MAX_STATIONS],
+    kept: [NO_STATION; MAX_STATIONS],
     links: [[0; MAX_STATIONS]; MAX_STATIONS],
     labels: [[UNASSIGNED; MAX_STATIONS]; MAX_STATIONS],
     rows: [[NO_ROW; MAX_STATIONS]; MAX_STATIONS],
@@ -269,7 +282,8 @@ impl Network {
     /// "Memory is in range if ..", and its bytes have a meaning (docs/LAYOUT.md, "What is turned down").
     pub fn in_range(&self) -> bool {
         let n = self.stations();
-        (2..=MAX_STATIONS).contains(&n)
+        self.version == VERSION
+            && (2..=MAX_STATIONS).contains(&n)
             && usize::from(self.in_air) <= MAX_PACKETS
             && (0..n).all(|i| self.station_in_range(i))
             && self.air().iter().all(|packet| self.packet_in_range(packet))
@@ -281,8 +295,8 @@ impl Network {
 
     fn station_in_range(&self, i: usize) -> bool {
         let n = self.stations();
-        self.is_station(self.sought[i])
-            && is_flag(self.active[i])
+        self.is_station(self.kept[i].sought)
+            && is_flag(self.kept[i].active)
             && (i + 1..n).all(|j| is_flag(self.links[i][j]))
             && (0..n).all(|t| {
                 if t == i {
@@ -334,14 +348,13 @@ impl Network {
             }
     }
 
-    /// The bytes that an accepted call leaves where the network has nothing (docs/LAYOUT.md, "After a call"): zeros past each count,
-    /// and in the places of no station what stood there, but for a flag that was not 1.
+    /// The bytes that an accepted call leaves where the network has nothing (docs/LAYOUT.md, "After a call"): the version, zeros past each
+    /// count, and in the places of no station what stood there, but for a flag that was not 1.
     pub fn settle(&mut self) {
-        settle_flags(&mut self.active);
-        settle_flags(self.links.as_flattened_mut());
-        for record in self.records.as_flattened_mut() {
-            record.passed = u8::from(record.passed == 1);
-        }
+        self.version = VERSION;
+        self.kept.iter_mut().for_each(|station| settle_flag(&mut station.active));
+        self.links.as_flattened_mut().iter_mut().for_each(settle_flag);
+        self.records.as_flattened_mut().iter_mut().for_each(|record| settle_flag(&mut record.passed));
         self.rows.as_flattened_mut().iter_mut().for_each(Row::settle);
         self.packets[usize::from(self.in_air)..].fill(NO_PACKET);
     }
@@ -351,8 +364,6 @@ fn is_flag(byte: u8) -> bool {
     byte < 2
 }
 
-fn settle_flags(flags: &mut [u8]) {
-    for flag in flags {
-        *flag = u8::from(*flag == 1);
-    }
+fn settle_flag(flag: &mut u8) {
+    *flag = u8::from(*flag == 1);
 }

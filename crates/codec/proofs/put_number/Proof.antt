@@ -1,70 +1,68 @@
--- `put_number` meets its contract: with the rest's bytes put from i on, the array is as asked.
-use Prim.Native.Nat.{suc, _+_, _-_, _≤_}
-use mathlib.Core.Path.{_≡_, refl}
-use lib.ListN.{length, length-set}
-use lib.Seq.{sets}
-use native.Mathlib.Nat.{add-zero, add-suc, sub-zero}
-use native.Mathlib.Numerals.{add-one}
+-- `put_number` meets its contract, by the width.
+use Prim.Native.Nat.{_+_}
+use mathlib.Core.Path.{_≡_, _∙_}
 use native.Mathlib.Omega.{arith}
 use borrow.Author.Needs.{needs}
-use Rattle.codec.specs.Bytes.{littleEndian}
+use Rattle.codec.proofs.ByteLaws.{width-eight}
 use Rattle.codec.proofs.put_number.Statement.{statement}
 use Rattle.codec.proofs.put_number.Tie as tie
 
-abbrev Inv-loop : tie.InvT-loop
-Inv-loop out₀ at width v i₀ rest₀ out i rest =
-    (length out ≡ length out₀) × (i ≤ width) × (sets out (at + i) (littleEndian (width - i) rest) ≡ sets out₀ at (littleEndian width v))
+put-one-requires : tie.Need-put-one-requires
+put-one-requires c κs = search needs
 
-abbrev μ-loop : tie.MeasureT-loop
-μ-loop out₀ at width v i₀ rest₀ out i rest = width - i
+put-two-requires : tie.Need-put-two-requires
+put-two-requires c κs = search needs
 
-loop-holds : tie.Need-loop-holds Inv-loop μ-loop
-loop-holds c = (refl, omega arith, rw (add-zero, sub-zero))
+put-four-requires : tie.Need-put-four-requires
+put-four-requires c κs = search needs
 
-low-byte-requires : tie.Need-low-byte-requires Inv-loop μ-loop
-low-byte-requires c κs = search needs
+put-eight-requires : tie.Need-put-eight-requires
+put-eight-requires c κs =
+    let test = c .before in
+    let start = test .before .before .before .before in
+    omega (arith, width-eight (start .args .width) (start .pre .1) (test .before .before .if1 .left) (test .before .if2 .left) (test .if3 .left), start .pre .0)
 
-add-out : tie.Need-add-out Inv-loop μ-loop
-add-out c = search needs
-
-slice-write-out : tie.Need-slice-write-out Inv-loop μ-loop
-slice-write-out c = search needs
-
-add-i : tie.Need-add-i Inv-loop μ-loop
-add-i c = search needs
-
-loop-less : tie.Need-loop-less Inv-loop μ-loop
-loop-less c = search needs
-
-loop-again : tie.Need-loop-again Inv-loop μ-loop
-unfolding littleEndian
-loop-again c =
-    let width = c .before .before .before .before .args .width in
-    let loop = c .before .before .loop in
-    let more : width - loop .i ≡ suc (width - suc (loop .i)) = omega arith in
-    (simp length-set (loop .inv .0), omega arith, rw (c .low-byte .ensures, add-one, add-suc) (rw more at (loop .inv .2)))
-
-same-length : tie.Need-same-length Inv-loop μ-loop
+same-length : tie.Need-same-length
 same-length c = search needs
 
-returns : tie.Need-returns Inv-loop μ-loop
-unfolding littleEndian
-returns c =
-    let none : c .before .before .before .args .width - c .before .loop .i ≡ 0 = omega arith in
-    rw none at (c .before .loop .inv .2)
+returns : tie.Need-returns
+returns c = let put = c .before .before in rw (put .before .before .if1 .taken) (put .put-one .ensures)
+
+same-length-2 : tie.Need-same-length-2
+same-length-2 c = search needs
+
+returns-2 : tie.Need-returns-2
+returns-2 c = let put = c .before .before in rw (put .before .before .if2 .taken) (put .put-two .ensures)
+
+same-length-3 : tie.Need-same-length-3
+same-length-3 c = search needs
+
+returns-3 : tie.Need-returns-3
+returns-3 c = let put = c .before .before in rw (put .before .before .if3 .taken) (put .put-four .ensures)
+
+same-length-4 : tie.Need-same-length-4
+same-length-4 c = search needs
+
+returns-4 : tie.Need-returns-4
+returns-4 c =
+    let put = c .before .before in
+    let test = put .before .before in
+    let start = test .before .before .before .before in
+    rw (width-eight (start .args .width) (start .pre .1) (test .before .before .if1 .left) (test .before .if2 .left) (test .if3 .left)) (put .put-eight .ensures)
 
 pub put-number-spec : {M : Type 1} → statement M
 put-number-spec =
     tie.close
     (tie.spec
-    Inv-loop
-    μ-loop
-    loop-holds
-    low-byte-requires
-    add-out
-    slice-write-out
-    add-i
-    loop-less
-    loop-again
+    put-one-requires
+    put-two-requires
+    put-four-requires
+    put-eight-requires
     same-length
-    returns)
+    returns
+    same-length-2
+    returns-2
+    same-length-3
+    returns-3
+    same-length-4
+    returns-4)

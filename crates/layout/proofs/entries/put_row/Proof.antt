@@ -1,6 +1,6 @@
 -- `entries::put_row` meets its contract: the count, and then the first k entries are put.
 use Prim.Native.Nat.{ℕ, _+_, _-_, _≤_}
-use mathlib.Core.Path.{_≡_, refl, subst, _∙_}
+use mathlib.Core.Path.{_≡_, refl, _∙_}
 use mathlib.Core.List.{[], _∷_, flatMap}
 use lib.ListN.{getD}
 use native.Mathlib.Omega.{arith}
@@ -12,22 +12,22 @@ use Rattle.model.specs.Memory.{Successor, rowLimit}
 use Rattle.rows.specs.declared.Row.{Row}
 use Rattle.rows.specs.View.{rowOf}
 use Rattle.rows.proofs.RowLaws.{row-length}
-use Rattle.layout.specs.Written.{padded, zeroSuccessor, successorBytes, rowBytes}
-use Rattle.layout.specs.Fits.{LabelFits}
-use Rattle.layout.proofs.EntryLaws.{successor-wide, row-past}
-use Rattle.layout.proofs.WritingLaws.{Put, put-none, put-length, put-more}
+use Rattle.codec.specs.Fields.{Fits}
+use Rattle.codec.specs.Tables.{padded, countedBytes}
+use Rattle.codec.proofs.FieldLaws.{written-wide}
+use Rattle.codec.proofs.TableLaws.{Put, put-none, put-length, put-more}
+use Rattle.layout.specs.Formats.{successorFormat, zeroSuccessor}
+use Rattle.layout.specs.Written.{successorBytes}
+use Rattle.layout.proofs.EntryLaws.{row-past}
 use Rattle.layout.proofs.entries.put_row.Statement.{statement}
 use Rattle.layout.proofs.entries.put_row.Tie as tie
-
-abbrev EntryFits : Successor → Type 0
-EntryFits e = LabelFits (e .label)
 
 abbrev entryIn : Row → ℕ → Successor
 entryIn row k = getD (rowOf row) k zeroSuccessor
 
 abbrev Inv-loop : tie.InvT-loop
 Inv-loop out₀ at row count k₀ out k =
-    (k ≤ rowLimit) × Put successorBytes EntryFits (entryIn row) out₀ (at + 1) out k
+    (k ≤ rowLimit) × Put successorBytes (Fits successorFormat) (entryIn row) out₀ (at + 1) out k
 
 abbrev μ-loop : tie.MeasureT-loop
 μ-loop out₀ at row count k₀ out k = rowLimit - k
@@ -39,7 +39,7 @@ put-byte-requires : tie.Need-put-byte-requires Inv-loop μ-loop
 put-byte-requires c κs = search needs
 
 loop-holds : tie.Need-loop-holds Inv-loop μ-loop
-loop-holds c = (omega arith, put-none successorBytes EntryFits _ _ _)
+loop-holds c = (omega arith, put-none successorBytes (Fits successorFormat) _ _ _)
 
 cast-loop : tie.Need-cast-loop Inv-loop μ-loop
 cast-loop c = search needs
@@ -59,7 +59,7 @@ entry-of-requires c κs = search needs
 put-entry-requires : tie.Need-put-entry-requires Inv-loop μ-loop
 put-entry-requires c κs =
     let loop = c .before .before .before .loop in
-    omega (arith, put-length successorBytes EntryFits _ _ _ (loop .out) (loop .k) (loop .inv .1))
+    omega (arith, put-length successorBytes (Fits successorFormat) _ _ _ (loop .out) (loop .k) (loop .inv .1))
 
 add-k : tie.Need-add-k Inv-loop μ-loop
 add-k c = search needs
@@ -72,28 +72,27 @@ loop-again c =
     let put = c .before .before in
     let loop = put .before .before .before .before .loop in (
       omega arith,
-      put-more successorBytes EntryFits _ _ _ (loop .out) (loop .k) (loop .inv .1) 17 successor-wide _
-          (put .put-entry .ensures .0 ∙ rw (put .before .entry-of .ensures))
-          (subst EntryFits (put .before .entry-of .ensures) (put .put-entry .ensures .1)),
+      put-more successorBytes (Fits successorFormat) _ _ _ (loop .out) (loop .k) (loop .inv .1) _ (written-wide successorFormat) _ (put .before .entry-of .ensures) _
+          (put .put-entry .ensures .0) (put .put-entry .ensures .1),
     )
 
 same-length : tie.Need-same-length Inv-loop μ-loop
 same-length c =
     let loop = c .before .loop in
-    put-length successorBytes EntryFits _ _ _ (loop .out) (loop .k) (loop .inv .1) ∙ c .before .before .before .before .put-byte .kept .0
+    put-length successorBytes (Fits successorFormat) _ _ _ (loop .out) (loop .k) (loop .inv .1) ∙ c .before .before .before .before .put-byte .kept .0
 
 returns : tie.Need-returns Inv-loop μ-loop
-unfolding rowBytes padded
+unfolding countedBytes padded
 returns c =
     let first = c .before .before .before .before in
     let start = first .before .before .before in
     let row = start .args .row in
     let loop = c .before .loop in
-    let all : loop .k ≡ 4 = omega arith in
+    let all : loop .k ≡ rowLimit = omega arith in
     let put = loop .inv .1 in (
       put .stands ∙ rw (all, first .put-byte .ensures, row-length row) (sets-next (start .args .out .now) (start .args .at) (start .args .at + 1) (row .count ∷ [])
-          (flatMap successorBytes (tabulate 4 (entryIn row))) refl),
-      record { labels = λ k h. put .fits k (omega arith); past = row-past row (long start) },
+          (flatMap successorBytes (tabulate rowLimit (entryIn row))) refl),
+      record { each = λ k h. put .fits k (omega arith); past = row-past row (long start) },
     )
 
 pub put-row-spec : {M : Type 1} → statement M

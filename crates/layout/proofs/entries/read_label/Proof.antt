@@ -1,47 +1,32 @@
--- `entries::read_label` meets its contract: the three numbers.
+-- `entries::read_label` meets its contract: the values at the place, and the label with them.
+use mathlib.Core.Path.{refl, ap, _∙_}
+use native.Mathlib.Omega.{arith}
 use borrow.Author.Needs.{needs}
-use Rattle.layout.specs.Stored.{storedLabel}
+use Rattle.layout.specs.Formats.{labelFrom}
 use Rattle.layout.proofs.entries.read_label.Statement.{statement}
 use Rattle.layout.proofs.entries.read_label.Tie as tie
 
-number-at-requires : tie.Need-number-at-requires
-number-at-requires c κs = search needs
+slice-aggregate-get-fields : tie.Need-slice-aggregate-get-fields
+slice-aggregate-get-fields c = search needs
 
-add-number-at : tie.Need-add-number-at
-add-number-at c = search needs
+slice-aggregate-get-fields-2 : tie.Need-slice-aggregate-get-fields-2
+slice-aggregate-get-fields-2 c = search needs
 
-number-at-requires-2 : tie.Need-number-at-requires-2
-number-at-requires-2 c κs = search needs
+get-fields-requires : tie.Need-get-fields-requires
+get-fields-requires c κs = (omega arith, refl, refl)
 
-cast-m : tie.Need-cast-m
-cast-m c = search needs
-
-add-number-at-2 : tie.Need-add-number-at-2
-add-number-at-2 c = search needs
-
-number-at-requires-3 : tie.Need-number-at-requires-3
-number-at-requires-3 c κs = search needs
-
-cast-d : tie.Need-cast-d
-cast-d c = search needs
-
-label-of-requires : tie.Need-label-of-requires
-label-of-requires c κs = search needs
+label-from-requires : tie.Need-label-from-requires
+label-from-requires c κs = search needs
 
 returns : tie.Need-returns
-unfolding storedLabel
-returns c = cc
+returns c = c .label-from .ensures ∙ ap labelFrom (c .before .before .get-fields .ensures .0)
 
 pub read-label-spec : {M : Type 1} → statement M
 read-label-spec =
     tie.close
     (tie.spec
-    number-at-requires
-    add-number-at
-    number-at-requires-2
-    cast-m
-    add-number-at-2
-    number-at-requires-3
-    cast-d
-    label-of-requires
+    slice-aggregate-get-fields
+    slice-aggregate-get-fields-2
+    get-fields-requires
+    label-from-requires
     returns)

@@ -1,55 +1,33 @@
--- `entries::read_record` meets its contract: each field at its place.
+-- `entries::read_record` meets its contract: the values at the place, and the record with them.
+use mathlib.Core.Path.{refl, ap, _∙_}
+use native.Mathlib.Omega.{arith}
 use borrow.Author.Needs.{needs}
-use Rattle.layout.specs.Stored.{storedRecord}
+use Rattle.layout.specs.Formats.{recordFrom}
+use Rattle.layout.proofs.EntryLaws.{record-in}
 use Rattle.layout.proofs.entries.read_record.Statement.{statement}
 use Rattle.layout.proofs.entries.read_record.Tie as tie
 
-number-at-requires : tie.Need-number-at-requires
-number-at-requires c κs = search needs
+slice-aggregate-get-fields : tie.Need-slice-aggregate-get-fields
+slice-aggregate-get-fields c = search needs
 
-cast-number : tie.Need-cast-number
-cast-number c = search needs
+slice-aggregate-get-fields-2 : tie.Need-slice-aggregate-get-fields-2
+slice-aggregate-get-fields-2 c = search needs
 
-add-destination : tie.Need-add-destination
-add-destination c = search needs
+get-fields-requires : tie.Need-get-fields-requires
+get-fields-requires c κs = (omega arith, refl, refl)
 
-shared-slice-read-destination : tie.Need-shared-slice-read-destination
-shared-slice-read-destination c = search needs
-
-add-read-label : tie.Need-add-read-label
-add-read-label c = search needs
-
-read-label-requires : tie.Need-read-label-requires
-read-label-requires c κs = search needs
-
-add-hop : tie.Need-add-hop
-add-hop c = search needs
-
-shared-slice-read-hop : tie.Need-shared-slice-read-hop
-shared-slice-read-hop c = search needs
-
-add-passed : tie.Need-add-passed
-add-passed c = search needs
-
-shared-slice-read-passed : tie.Need-shared-slice-read-passed
-shared-slice-read-passed c = search needs
+record-from-requires : tie.Need-record-from-requires
+record-from-requires c κs = search needs
 
 returns : tie.Need-returns
-unfolding storedRecord
-returns c = cc
+returns c = record-in _ ∙ c .record-from .ensures ∙ ap recordFrom (c .before .before .get-fields .ensures .0)
 
 pub read-record-spec : {M : Type 1} → statement M
 read-record-spec =
     tie.close
     (tie.spec
-    number-at-requires
-    cast-number
-    add-destination
-    shared-slice-read-destination
-    add-read-label
-    read-label-requires
-    add-hop
-    shared-slice-read-hop
-    add-passed
-    shared-slice-read-passed
+    slice-aggregate-get-fields
+    slice-aggregate-get-fields-2
+    get-fields-requires
+    record-from-requires
     returns)

@@ -5,12 +5,9 @@ use Rattle.layout.specs.Meaning.{fieldsHaveMeaning}
 use Rattle.layout.proofs.meaning.fields_have_meaning.Statement.{statement}
 use Rattle.layout.proofs.meaning.fields_have_meaning.Tie as tie
 
-is-flag-requires : tie.Need-is-flag-requires
-is-flag-requires c κs = search needs
-
 returns : tie.Need-returns
 unfolding fieldsHaveMeaning
-returns c = simp (c .before .if1 .taken, c .is-flag .ensures)
+returns c = simp (c .if1 .taken)
 
 returns-2 : tie.Need-returns-2
 unfolding fieldsHaveMeaning
@@ -30,4 +27,4 @@ returns-4 c = rw (c .before .before .if3 .left, c .is-zero-label .ensures)
 pub fields-have-meaning-spec : {M : Type 1} → statement M
 fields-have-meaning-spec =
     tie.close
-    (tie.spec is-flag-requires returns returns-2 returns-3 is-zero-label-requires returns-4)
+    (tie.spec returns returns-2 returns-3 is-zero-label-requires returns-4)

@@ -1,6 +1,6 @@
 -- `packets::put_air` meets its contract: the count, and then the first k packets are put.
 use Prim.Native.Nat.{ℕ, _+_, _-_, _≤_}
-use mathlib.Core.Path.{_≡_, refl, sym, subst, _∙_}
+use mathlib.Core.Path.{_≡_, refl, sym, _∙_}
 use mathlib.Core.List.{[], _∷_, flatMap}
 use lib.ListN.{length, getD}
 use native.Mathlib.Omega.{arith}
@@ -13,15 +13,13 @@ use Rattle.model.specs.Memory.{Packet, zeroPacket, airLimit}
 use Rattle.network.specs.declared.Air.{Air}
 use Rattle.network.specs.View.{packetOf, packetsOf, airOf}
 use Rattle.network.proofs.PacketLaws.{air-length, packetIn}
-use Rattle.layout.specs.Written.{padded, packetBytes, airBytes}
-use Rattle.layout.specs.Fits.{BodyFits}
+use Rattle.codec.specs.Tables.{padded, countedBytes}
+use Rattle.codec.proofs.TableLaws.{Put, put-none, put-length, put-more}
+use Rattle.layout.specs.Written.{packetBytes}
+use Rattle.layout.specs.Fits.{PacketFits}
 use Rattle.layout.proofs.EntryLaws.{packet-wide, air-past}
-use Rattle.layout.proofs.WritingLaws.{Put, put-none, put-length, put-more}
 use Rattle.layout.proofs.packets.put_air.Statement.{statement}
 use Rattle.layout.proofs.packets.put_air.Tie as tie
-
-abbrev PacketFits : Packet → Type 0
-PacketFits p = BodyFits (p .body)
 
 abbrev packetOr : Air → ℕ → Packet
 packetOr air k = getD (airOf air) k zeroPacket
@@ -85,9 +83,8 @@ loop-again c =
     let air = put .before .before .before .before .before .before .before .before .before .before .before .args .t3 in
     let same = put .before .counted .ensures ∙ sym (tabulate-or (air .count) (packetIn (air .packets)) (loop .k) zeroPacket) in (
       omega arith,
-      put-more packetBytes PacketFits _ _ _ (loop .out) (loop .k) (loop .inv .1) 28 packet-wide _
-          (put .put-packet .ensures .0 ∙ rw same)
-          (subst PacketFits same (put .put-packet .ensures .1)),
+      put-more packetBytes PacketFits _ _ _ (loop .out) (loop .k) (loop .inv .1) _ packet-wide _ same _
+          (put .put-packet .ensures .0) (put .put-packet .ensures .1),
     )
 
 same-length : tie.Need-same-length Inv-loop μ-loop
@@ -96,7 +93,7 @@ same-length c =
     put-length packetBytes PacketFits _ _ _ (loop .out) (loop .k) (loop .inv .1) ∙ c .before .before .before .before .put-byte .kept .0
 
 returns : tie.Need-returns Inv-loop μ-loop
-unfolding airBytes padded
+unfolding countedBytes padded
 returns c =
     let first = c .before .before .before .before in
     let start = first .before .before .before in
@@ -106,7 +103,7 @@ returns c =
     let put = loop .inv .1 in (
       put .stands ∙ rw (all, first .put-byte .ensures, air-length air) (sets-next (start .args .out .now) (start .args .at) (start .args .at + 1) (air .count ∷ [])
           (flatMap packetBytes (tabulate airLimit (packetOr air))) refl),
-      record { bodies = λ k h. put .fits k (omega arith); past = air-past air (room start) },
+      record { each = λ k h. put .fits k (omega arith); past = air-past air (room start) },
     )
 
 pub put-air-spec : {M : Type 1} → statement M

@@ -1,0 +1,172 @@
+-- The entries of the layout, field by field in the order of their bytes (docs/LAYOUT.md, "The entries"), and the entry that has given values.
+-- Widths and places come from these lists and are written nowhere else.
+use Prim.Native.Nat.{ℕ, suc, _*_}
+use mathlib.Core.Logic.{_≢_}
+use mathlib.Core.Bool.{Bool, false}
+use mathlib.Core.List.{List, [], _∷_, _++_}
+use lib.ListN.{getD}
+use lib.Dec.{eqb}
+use Rattle.label.specs.declared.Label.{Label}
+use Rattle.label.specs.Label.{label}
+use Rattle.codec.specs.Fields.{Field, number, flag, within, widths, total}
+use Rattle.model.specs.Memory.{Successor, Record, Body, request, reply, error, other, Packet, Network, zeroLabel, requestNumberAt, soughtAt, isActive, rowLimit, airLimit}
+use Rattle.network.specs.declared.RequestNumber.{RequestNumber}
+use Rattle.network.specs.declared.Packet as code
+
+abbrev pub labelFormat : List (Field Label)
+labelFormat =
+    number 8 (λ l. l .s .0)
+    ∷ number 4 (λ l. l .m)
+    ∷ number 4 (λ l. l .d)
+    ∷ []
+
+abbrev pub labelFrom : List ℕ → Label
+labelFrom v = label (getD v 0 0) (getD v 1 0) (getD v 2 0)
+
+abbrev pub labelWide : ℕ
+labelWide = total (widths labelFormat)
+
+-- An entry of a row; and a row, which is a count and four of them.
+abbrev pub successorFormat : List (Field Successor)
+successorFormat =
+    number 1 (λ e. e .station)
+    ∷ within (λ e. e .label) labelFormat
+
+abbrev pub successorFrom : List ℕ → Successor
+successorFrom v = record { station = getD v 0 0; label = label (getD v 1 0) (getD v 2 0) (getD v 3 0) }
+
+abbrev pub successorWide : ℕ
+successorWide = total (widths successorFormat)
+
+unfoldable pub zeroSuccessor : Successor
+zeroSuccessor = record { station = 0; label = zeroLabel }
+
+abbrev pub rowWide : ℕ
+rowWide = suc (successorWide * rowLimit)
+
+abbrev pub recordFormat : List (Field Record)
+recordFormat =
+    number 4 (λ r. r .number)
+    ∷ number 1 (λ r. r .destination)
+    ∷ within (λ r. r .cached) labelFormat
+    ++ number 1 (λ r. r .lastHop)
+    ∷ flag (λ r. r .passed)
+    ∷ []
+
+abbrev pub recordFrom : List ℕ → Record
+recordFrom v = record {
+  number = getD v 0 0;
+  destination = getD v 1 0;
+  cached = label (getD v 2 0) (getD v 3 0) (getD v 4 0);
+  lastHop = getD v 5 0;
+  passed = eqb (getD v 6 0) 1;
+}
+
+abbrev pub recordWide : ℕ
+recordWide = total (widths recordFormat)
+
+-- What a station keeps of its own requests: its last request number, the destination that it last sought, and whether it is active.
+pub record Station : Type 0 where
+  pub number : ℕ
+  pub sought : ℕ
+  pub active : Bool
+
+abbrev pub stationFormat : List (Field Station)
+stationFormat =
+    number 4 (λ k. k .number)
+    ∷ number 1 (λ k. k .sought)
+    ∷ flag (λ k. k .active)
+    ∷ []
+
+abbrev pub stationFrom : List ℕ → Station
+stationFrom v = record { number = getD v 0 0; sought = getD v 1 0; active = eqb (getD v 2 0) 1 }
+
+abbrev pub stationWide : ℕ
+stationWide = total (widths stationFormat)
+
+abbrev pub stationOf : Network → ℕ → Station
+stationOf net i = record { number = requestNumberAt net i; sought = soughtAt net i; active = isActive net i }
+
+unfoldable pub zeroStation : Station
+zeroStation = record { number = 0; sought = 0; active = false }
+
+-- A link: whether it is up.
+abbrev pub linkFormat : List (Field Bool)
+linkFormat = flag (λ up. up) ∷ []
+
+abbrev pub linkFrom : List ℕ → Bool
+linkFrom v = eqb (getD v 0 0) 1
+
+abbrev pub linkWide : ℕ
+linkWide = total (widths linkFormat)
+
+-- A packet with all its fields.
+abbrev pub packetFormat : List (Field code.Packet)
+packetFormat =
+    number 1 (λ p. p .sender)
+    ∷ number 1 (λ p. p .receiver)
+    ∷ number 1 (λ p. p .kind)
+    ∷ number 1 (λ p. p .source)
+    ∷ number 4 (λ p. p .number .0)
+    ∷ number 1 (λ p. p .destination)
+    ∷ within (λ p. p .label) labelFormat
+    ++ flag (λ p. p .reset)
+    ∷ number 2 (λ p. p .mask)
+    ∷ []
+
+abbrev pub resetIn : List ℕ → ℕ
+resetIn v = getD v 9 0
+
+abbrev pub packetFrom : List ℕ → code.Packet
+packetFrom v = record {
+  label = label (getD v 6 0) (getD v 7 0) (getD v 8 0);
+  number = record { 0 = getD v 4 0 };
+  mask = getD v 10 0;
+  kind = getD v 2 0;
+  sender = getD v 0 0;
+  receiver = getD v 1 0;
+  source = getD v 3 0;
+  destination = getD v 5 0;
+  reset = eqb (resetIn v) 1;
+}
+
+abbrev pub packetWide : ℕ
+packetWide = total (widths packetFormat)
+
+abbrev pub airWide : ℕ
+airWide = suc (packetWide * airLimit)
+
+-- The packet that is written for one of the model's: zeros in the fields that its kind doesn't use. A request has no mask, a reply no mask and
+-- no reset bit, an error nothing but its mask.
+abbrev pub packetWith : (sender receiver kind source serial destination : ℕ) → Label → Bool → (mask : ℕ) → code.Packet
+packetWith sender receiver kind source serial destination l reset mask = record {
+  label = l;
+  number = record { 0 = serial };
+  mask = mask;
+  kind = kind;
+  sender = sender;
+  receiver = receiver;
+  source = source;
+  destination = destination;
+  reset = reset;
+}
+
+-- A packet with nothing but sender, receiver, kind and mask.
+abbrev pub bare : (sender receiver kind mask : ℕ) → code.Packet
+bare sender receiver kind mask = packetWith sender receiver kind 0 0 0 (label 0 0 0) false mask
+
+unfoldable pub plainBody : (sender receiver : ℕ) → Body → code.Packet
+plainBody a b (request R) = packetWith a b 1 (R .source) (R .number) (R .destination) (R .label) (R .reset) 0
+plainBody a b (reply v) = packetWith a b 2 (v .source) (v .number) (v .destination) (v .label) false 0
+plainBody a b (error mask) = bare a b 3 mask
+plainBody a b (other kind) = bare a b kind 0
+
+abbrev pub plainOf : Packet → code.Packet
+plainOf p = plainBody (p .sender) (p .receiver) (p .body)
+
+-- The other kinds are not those three.
+unfoldable pub Known : Body → Type 0
+Known (request R) = Unit {0}
+Known (reply v) = Unit {0}
+Known (error mask) = Unit {0}
+Known (other kind) = (kind ≢ 1) × (kind ≢ 2) × (kind ≢ 3)
