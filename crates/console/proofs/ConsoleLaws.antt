@@ -1,115 +1,82 @@
 -- Laws of the console's calls: what memory that is written reads as, and how a call ends.
-use Prim.Native.Nat.{ℕ, _+_, _-_, _≤_, _<_}
-use mathlib.Core.Path.{_≡_, refl, ap, subst, _∙_}
-use mathlib.Core.Bool.{true, false, not}
+use Prim.Native.Nat.{ℕ, _+_, _≤_, _<_}
+use mathlib.Core.Path.{_≡_, refl, sym, ap, subst, _∙_}
+use mathlib.Core.Bool.{Bool, true, false}
 use mathlib.Core.List.{List, _++_}
-use lib.ListN.{length, drop, length-append}
+use lib.ListN.{length, drop}
 use native.Mathlib.Omega.{arith}
-use borrow.Author.Tests.{lt-ltb, ltb-false, le-ltb, not-false}
-use Rattle.base.proofs.Booleans.{neither}
-use Rattle.base.specs.Results.{Result, refused, accepted, refuse_when_otherwise_, isRefusal}
+use Rattle.base.specs.Results.{Result, refused, accepted, isRefusal}
+use Rattle.base.proofs.Booleans.{clash}
+use Rattle.base.proofs.Results.{refuse-holds, refuse-passes}
 use Rattle.codec.specs.Bytes.{over}
 use Rattle.model.specs.Memory.{Network, memoryInRange}
-use Rattle.model.specs.Calls.{Call, Open, Up, Down, Solicit, GiveUp, Expire, Deliver, Lose, Duplicate}
-use Rattle.model.specs.Calls.{Effect, step, traced, trace}
+use Rattle.model.specs.Calls.{Call, Effect, step}
 use Rattle.model.proofs.Range.{Invariant, in-range-invariant}
+use Rattle.model.proofs.Refusals.{OnMemory, out-of-range}
 use Rattle.model.proofs.Answers.{refused-tells, accepted-tells}
 use Rattle.network.specs.declared.Memory.{Memory}
 use Rattle.network.specs.View.{view}
 use Rattle.layout.specs.Places.{layoutLength}
-use Rattle.layout.specs.Stored.{storedNetwork}
 use Rattle.layout.specs.Written.{networkBytes}
 use Rattle.layout.specs.Fits.{NetworkFits}
-use Rattle.layout.specs.Meaning.{hasMeaning}
-use Rattle.layout.proofs.NetworkLaws.{network-wide}
-use Rattle.layout.proofs.ReadBack.{network-back, meaning-back}
+use Rattle.layout.specs.Meaning.{tooShort, storedNetwork}
+use Rattle.layout.proofs.MeaningLaws.{short-not-memory, memory-long, stored-none, stored-in-range}
+use Rattle.layout.proofs.ReadBack.{stored-back}
 use Rattle.steps.specs.declared.Done.{Done}
 use Rattle.steps.specs.Called.{Called}
 use Rattle.console.specs.Packed.{packed, answerOf, countOf}
-use Rattle.console.specs.Console.{tooShort, notMemory, unreadable, calling, Stores, Ends, tracing}
+use Rattle.console.specs.Console.{calling, Stores, Ends}
 use Rattle.console.specs.Contracts.{Finished}
-
--- Bytes that are memory: long enough, and with a meaning.
-module _ (bytes : List ℕ) (h : notMemory bytes ≡ false) where
-  pub memory-not-short : tooShort bytes ≡ false
-  unfolding notMemory
-  memory-not-short = neither (tooShort bytes) (not (hasMeaning bytes)) h .0
-
-  pub memory-long : layoutLength ≤ length bytes
-  unfolding tooShort
-  memory-long = ltb-false (length bytes) layoutLength memory-not-short
-
-  pub memory-meant : hasMeaning bytes ≡ true
-  unfolding notMemory
-  memory-meant = not-false (hasMeaning bytes) (neither (tooShort bytes) (not (hasMeaning bytes)) h .1)
-
-  -- No call on them is turned down for the bytes.
-  pub memory-readable : (c : Call) → unreadable c bytes ≡ false
-  unfolding unreadable
-  memory-readable (Open n start) = memory-not-short
-  memory-readable (Up a b) = h
-  memory-readable (Down a b) = h
-  memory-readable (Solicit a t) = h
-  memory-readable (GiveUp a) = h
-  memory-readable (Expire a t) = h
-  memory-readable (Deliver k) = h
-  memory-readable (Lose k) = h
-  memory-readable (Duplicate k) = h
-
-pub not-memory-short : (bytes : List ℕ) → length bytes < layoutLength → notMemory bytes ≡ true
-unfolding notMemory tooShort
-not-memory-short bytes h = rw (lt-ltb (length bytes) layoutLength h)
-
-pub not-memory-long : (bytes : List ℕ) → layoutLength ≤ length bytes → notMemory bytes ≡ not (hasMeaning bytes)
-unfolding notMemory tooShort
-not-memory-long bytes h = rw (le-ltb (length bytes) layoutLength h)
 
 -- A call by how it begins.
 module _ (c : Call) (bytes : List ℕ) where
-  pub calling-1 : unreadable c bytes ≡ true → calling c bytes ≡ refused 1
-  unfolding calling refuse_when_otherwise_
-  calling-1 h = rw h
+  pub calling-short : tooShort bytes ≡ true → calling c bytes ≡ refused 1
+  unfolding calling
+  calling-short h = refuse-holds 1 _ _ h
 
-  pub calling-step : unreadable c bytes ≡ false → calling c bytes ≡ step c (storedNetwork bytes)
-  unfolding calling refuse_when_otherwise_
-  calling-step h = rw h
+  pub calling-long : tooShort bytes ≡ false → calling c bytes ≡ step c (storedNetwork bytes)
+  unfolding calling
+  calling-long h = refuse-passes 1 _ _ h
+
+  -- A call on memory: too few bytes hold memory out of range.
+  pub calling-step : OnMemory c → calling c bytes ≡ step c (storedNetwork bytes)
+  calling-step on = go (tooShort bytes) refl
+    where
+      go : (b : Bool) → tooShort bytes ≡ b → calling c bytes ≡ step c (storedNetwork bytes)
+      go true e = calling-short e ∙ sym (out-of-range c (storedNetwork bytes) on (stored-none bytes (short-not-memory bytes e)))
+      go false e = calling-long e
 
 -- What is written is memory, and reads back.
 module _ (net : Network) (fits : NetworkFits net) (ranged : memoryInRange net ≡ true) (bytes bytes′ : List ℕ)
-    (long : layoutLength ≤ length bytes) (e : bytes′ ≡ over (networkBytes net) bytes) where
+    (e : bytes′ ≡ over (networkBytes net) bytes) where
   inv : Invariant ⊥ net
   inv = in-range-invariant net ranged (record {
     labels-length = fits .labels .long;
     rows-length = fits .rows .long;
     records-length = fits .records .long;
-    sought-length = fits .head .sought-long;
+    sought-length = fits .stations .sought-long;
   })
 
-  rest : List ℕ
-  rest = drop (length (networkBytes net)) bytes
-
-  split : bytes′ ≡ networkBytes net ++ rest
-  unfolding over rest
-  split = e
-
   pub written-stores : Stores bytes′ net
-  unfolding notMemory tooShort
-  written-stores = record {
-    readable = rw (le-ltb (length bytes′) layoutLength (omega (arith, ap length split, length-append (networkBytes net) rest, network-wide net fits)), meaning-back net fits bytes′ rest split (inv .formed .high) (inv .room));
-    network = network-back net fits bytes′ rest split;
-    in-range = ranged;
-  }
+  unfolding over
+  written-stores = record { network = stored-back net fits bytes′ (drop (length (networkBytes net)) bytes) e (inv .formed .high) (inv .room); in-range = ranged }
 
--- How a call ends, by what it gave on memory that stands for the bytes.
-pub ends-1 : (c : Call) (bytes : List ℕ) → unreadable c bytes ≡ true → Ends bytes (calling c bytes) 1 bytes
-unfolding Ends
-ends-1 c bytes h = rw (calling-1 c bytes h) (refl, refl)
+-- How a call ends, by what it gave.
+module _ (c : Call) (bytes : List ℕ) (memory : Memory) (d : Done) (called : Called memory (step c (view memory)) d) where
+  -- A call on memory that was not turned down had bytes enough.
+  pub call-long : OnMemory c → view memory ≡ storedNetwork bytes → isRefusal (d .answer) ≡ false → layoutLength ≤ length bytes
+  unfolding Called isRefusal
+  call-long on same h = go (memoryInRange (view memory)) refl
+    where
+      go : (b : Bool) → memoryInRange (view memory) ≡ b → layoutLength ≤ length bytes
+      go true e = memory-long bytes (stored-in-range bytes (rw same at e))
+      go false e =
+          let told : d .answer ≡ 1 = ap (λ (x : Done). x .answer) (subst (λ z. Called memory z d) (out-of-range c (view memory) on e) called) in
+          clash (rw told) h
 
-module _ (c : Call) (bytes : List ℕ) (d : Done) (r : ℕ) (bytes′ : List ℕ) where
-  pub ends-finished : unreadable c bytes ≡ false → layoutLength ≤ length bytes → (memory : Memory) → step c (view memory) ≡ step c (storedNetwork bytes)
-      → Called memory (step c (view memory)) d → Finished d bytes r bytes′ → Ends bytes (calling c bytes) r bytes′
+  pub ends-finished : calling c bytes ≡ step c (view memory) → (r : ℕ) (bytes′ : List ℕ) → Finished d bytes r bytes′ → Ends bytes (calling c bytes) r bytes′
   unfolding Ends Called
-  ends-finished h long memory same called f = rw (calling-step c bytes h, ← same) (go (step c (view memory)) refl called)
+  ends-finished same r bytes′ f = rw same (go (step c (view memory)) refl called)
     where
       go : (z : Result Effect) → step c (view memory) ≡ z → Called memory z d → Ends bytes z r bytes′
       go (refused number) e k =
@@ -122,17 +89,7 @@ module _ (c : Call) (bytes : List ℕ) (d : Done) (r : ℕ) (bytes′ : List ℕ
           let sent : d .sent ≡ x .sent = ap (λ (y : Effect). y .sent) (k .0) in
           let told : isRefusal (d .answer) ≡ false = rw answer (accepted-tells c (view memory) x e) in
           let put = f .written told in
-          (f .result ∙ rw (answer, sent), put .0 ∙ rw net, subst (λ z. Stores bytes′ z) net (written-stores (view (d .memory)) (put .1) (k .1) bytes bytes′ long (put .0)))
-
--- Trace, by how it begins.
-module _ (bytes : List ℕ) (a t : ℕ) where
-  pub tracing-1 : notMemory bytes ≡ true → tracing bytes a t ≡ traced 1 0
-  unfolding tracing
-  tracing-1 h = rw h
-
-  pub tracing-memory : notMemory bytes ≡ false → tracing bytes a t ≡ trace (storedNetwork bytes) a t
-  unfolding tracing
-  tracing-memory h = rw h
+          (f .result ∙ rw (answer, sent), put .0 ∙ rw net, subst (λ z. Stores bytes′ z) net (written-stores (view (d .memory)) (put .1) (k .1) bytes bytes′ (put .0)))
 
 -- The two halves of a result.
 pub unpacked : (answer count : ℕ) → answer < 4_294_967_296 → (answerOf (packed answer count) ≡ answer) × (countOf (packed answer count) ≡ count)

@@ -2,7 +2,7 @@
 use Prim.Native.Nat.{ℕ, _≤_, _<_}
 use mathlib.Core.Path.{_≡_, refl, sym, ap, subst, _∙_}
 use mathlib.Core.Logic.{_≢_}
-use mathlib.Core.Bool.{Bool, true, false, not, _||_}
+use mathlib.Core.Bool.{Bool, true, false, not}
 use mathlib.Core.List.{List}
 use lib.ListN.{length}
 use native.Mathlib.Omega.{arith}
@@ -16,13 +16,13 @@ use Rattle.draining.proofs.Ending.{limit-largest}
 use Rattle.network.specs.declared.Memory.{Memory}
 use Rattle.network.specs.View.{view}
 use Rattle.layout.specs.Places.{layoutLength}
-use Rattle.layout.specs.Stored.{storedNetwork}
 use Rattle.layout.specs.Written.{networkBytes}
 use Rattle.layout.specs.Fits.{NetworkFits}
+use Rattle.layout.specs.Meaning.{storedNetwork}
+use Rattle.layout.proofs.MeaningLaws.{memory-long, stored-in-range}
 use Rattle.steps.specs.declared.Drained.{Drained}
 use Rattle.steps.specs.Drained.{DrainedTo, DrainEnds}
 use Rattle.console.specs.Packed.{packedTwo, shortAnswerOf, firstOf, secondOf}
-use Rattle.console.specs.Console.{notMemory}
 use Rattle.console.specs.Showing.{outOfRange}
 use Rattle.console.specs.Draining.{DrainsBy, DrainsBytes}
 use Rattle.console.specs.Made.{MadeBytes}
@@ -68,21 +68,20 @@ module _ (bytes : List ℕ) where
   claims b r bytes′ e d =
       (subst (λ x. DrainsBy x bytes r bytes′) (sym e) d, λ made a t ha ht apart. loop-free (storedNetwork bytes′) (reaches b r bytes′ d (made-reaches bytes made)) a t ha ht apart)
 
-  pub drain-unreadable : notMemory bytes ≡ true → Claims 1 bytes
-  unfolding outOfRange
-  drain-unreadable h = claims true 1 bytes (ap (λ (x : Bool). x || not (memoryInRange (storedNetwork bytes))) h) (refl, refl)
-
-  module _ (h : notMemory bytes ≡ false) (memory : Memory) (same : view memory ≡ storedNetwork bytes) (d : Drained) (ends : DrainEnds (memoryInRange (view memory)) memory d) where
+  module _ (memory : Memory) (same : view memory ≡ storedNetwork bytes) (d : Drained) (ends : DrainEnds (memoryInRange (view memory)) memory d) where
     out-is : outOfRange bytes ≡ not (memoryInRange (view memory))
     unfolding outOfRange
-    out-is = rw (h, same)
+    out-is = rw same
 
     pub drain-out : d .answer ≢ 0 → Claims 1 bytes
     drain-out q = claims true 1 bytes (out-is ∙ ap not (drain-refused memory d (memoryInRange (view memory)) ends q)) (refl, refl)
 
-    pub drain-written : d .answer ≡ 0 → layoutLength ≤ length bytes → {r : ℕ} {bytes′ : List ℕ} → r ≡ packedTwo 0 (d .deliveries) (d .losses)
+    pub drain-long : d .answer ≡ 0 → layoutLength ≤ length bytes
+    drain-long q = memory-long bytes (stored-in-range bytes (rw same at (drain-accepted memory d (memoryInRange (view memory)) ends q .0)))
+
+    pub drain-written : d .answer ≡ 0 → {r : ℕ} {bytes′ : List ℕ} → r ≡ packedTwo 0 (d .deliveries) (d .losses)
         → (bytes′ ≡ over (networkBytes (view (d .memory))) bytes) × NetworkFits (view (d .memory)) → Claims r bytes′
-    drain-written q long {r} {bytes′} result (put, fits) =
+    drain-written q {r} {bytes′} result (put, fits) =
         let (ranged, t) = drain-accepted memory d (memoryInRange (view memory)) ends q in
         let parts = unpacked-two (d .deliveries) (d .losses) (drained-few t .0) in
         claims false r bytes′ (out-is ∙ ap not ranged) (record {
@@ -93,5 +92,5 @@ module _ (bytes : List ℕ) where
           deliveries = ap firstOf result ∙ parts .1 ∙ t .deliveries;
           losses = ap secondOf result ∙ parts .2 ∙ t .losses;
           written = put;
-          stores = written-stores (view (d .memory)) fits (t .drained .in-range) bytes bytes′ long put;
+          stores = written-stores (view (d .memory)) fits (t .drained .in-range) bytes bytes′ put;
         })

@@ -5,6 +5,5 @@ pub mod DrainLaws
 pub mod ScriptResults
 pub mod ShowLaws
 pub mod ShownLaws
-pub mod GatherLaws
 pub mod PreviewLaws
 pub mod SearchLaws

@@ -11,12 +11,13 @@ use Rattle.model.specs.Walks.{Reached}
 use Rattle.model.proofs.Refusals.{open-1, open-accepted}
 use Rattle.model.proofs.HistoryLaws.{made-reached}
 use Rattle.draining.specs.Draining.{callsOf, Action, call, drain, opens}
-use Rattle.layout.specs.Stored.{storedNetwork}
-use Rattle.console.specs.Console.{tooShort, notMemory, unreadable, calling, Stores, Ends}
+use Rattle.layout.specs.Meaning.{tooShort, storedNetwork}
+use Rattle.layout.proofs.MeaningLaws.{stored-in-range, memory-not-short}
+use Rattle.console.specs.Console.{calling, Stores, Ends}
 use Rattle.console.specs.Showing.{outOfRange}
 use Rattle.console.specs.Draining.{DrainsBy}
 use Rattle.console.specs.Made.{LeavesBytes, MadeBytes}
-use Rattle.console.proofs.ConsoleLaws.{memory-readable, calling-1, calling-step}
+use Rattle.console.proofs.ConsoleLaws.{calling-short, calling-long}
 
 -- After a call, turned down or not, the bytes hold the network that the model's call leaves.
 ends-stores : (bytes : List ℕ) (net : Network) → Stores bytes net → (z : Result Effect) (r : ℕ) (next : List ℕ) → Ends bytes z r next → Stores next (after net z)
@@ -26,7 +27,8 @@ ends-stores bytes net s (accepted x) r next e = e .2
 
 call-stores : (c : Call) (bytes : List ℕ) (r : ℕ) (left : List ℕ) (net : Network) → Stores bytes net → LeavesBytes (call c) bytes r left → Stores left (after net (step c net))
 call-stores c bytes r left net s e =
-    let same : calling c bytes ≡ step c net = calling-step c bytes (memory-readable bytes (s .readable) c) ∙ ap (step c) (s .network) in
+    let long = memory-not-short bytes (stored-in-range bytes (rw (s .network) (s .in-range))) in
+    let same : calling c bytes ≡ step c net = calling-long c bytes long ∙ ap (step c) (s .network) in
     subst (λ z. Stores left (after net z)) same (ends-stores bytes net s (calling c bytes) r left e)
 
 -- What draining leaves, the calls of its turns leave.
@@ -44,7 +46,7 @@ stepped drain bytes r left net s e = drain-stores (outOfRange bytes) bytes r lef
 
 -- An Open that answers 0 was accepted, and leaves the bytes of fresh memory.
 opened : (n start : ℕ) (bytes left : List ℕ) → LeavesBytes (opens n start) bytes 0 left → (notOpening n start ≡ false) × Stores left (fresh n start)
-unfolding Ends unreadable
+unfolding Ends
 opened n start bytes left h = go (tooShort bytes) refl (notOpening n start) refl
   where
     c : Call
@@ -54,19 +56,16 @@ opened n start bytes left h = go (tooShort bytes) refl (notOpening n start) refl
     one e = let r = subst (λ z. Ends bytes z 0 left) e h .0 in absurd (omega (arith, r))
 
     go : (t : Bool) → tooShort bytes ≡ t → (u : Bool) → notOpening n start ≡ u → (notOpening n start ≡ false) × Stores left (fresh n start)
-    go true e u k = one (calling-1 c bytes e)
-    go false e true k = one (calling-step c bytes e ∙ open-1 n start (storedNetwork bytes) k)
+    go true e u k = one (calling-short c bytes e)
+    go false e true k = one (calling-long c bytes e ∙ open-1 n start (storedNetwork bytes) k)
     go false e false k =
-        let z = calling-step c bytes e ∙ open-accepted n start (storedNetwork bytes) k in
+        let z = calling-long c bytes e ∙ open-accepted n start (storedNetwork bytes) k in
         (k, subst (λ x. Ends bytes x 0 left) z h .2)
 
 module _ (bytes : List ℕ) (m : MadeBytes bytes) where
   made-stores : (net : Network) × Stores bytes net × Reached net
   made-stores = made-reached opens LeavesBytes Stores opened stepped bytes m
 
-  -- So they are memory, and hold a network that a list of calls reaches.
-  pub made-readable : notMemory bytes ≡ false
-  made-readable = made-stores .1 .readable
-
+  -- So they hold a network that a list of calls reaches.
   pub made-reaches : Reached (storedNetwork bytes)
   made-reaches = let (net, stores, reached) = made-stores in subst Reached (sym (stores .network)) reached

@@ -12,20 +12,21 @@ use Rattle.rows.specs.declared.Row.{Row}
 use Rattle.rows.specs.View.{rowOf}
 use Rattle.rows.specs.Search.{placeOf, lookedAt}
 use Rattle.rows.proofs.RowLaws.{row-length}
+use Rattle.layout.specs.Formats.{rowWide}
 use Rattle.layout.specs.Stored.{storedRow}
 use Rattle.console.specs.Packed.{packed, telling}
 use Rattle.console.specs.Searching.{searching}
 
 module _ (bytes : List ℕ) (j : ℕ) where
-  pub search-short : length bytes < 69 → 1 ≡ telling (searching bytes j)
+  pub search-short : length bytes < rowWide → 1 ≡ telling (searching bytes j)
   unfolding searching telling
-  search-short h = sym (ap telling (refuse-holds 1 _ _ (lt-ltb (length bytes) 69 h)))
+  search-short h = sym (ap telling (refuse-holds 1 _ _ (lt-ltb (length bytes) rowWide h)))
 
-  module _ (row : Row) (e : row ≡ storedRow bytes 0) (long : 69 ≤ length bytes) where
+  module _ (row : Row) (e : rowOf row ≡ storedRow bytes 0) (long : rowWide ≤ length bytes) where
     -- The tests that are left where the bytes are enough.
     rest : searching bytes j ≡ refuse 1 when ltb rowLimit (row .count) otherwise refuse 2 when leb 16 j otherwise accepted (placeOf j (rowOf row) + 65_536 * lookedAt j (rowOf row))
     unfolding searching
-    rest = refuse-passes 1 _ _ (le-ltb (length bytes) 69 long) ∙ rw (← e, row-length row)
+    rest = refuse-passes 1 _ _ (le-ltb (length bytes) rowWide long) ∙ rw (← e, row-length row)
 
     pub search-over : rowLimit < row .count → 1 ≡ telling (searching bytes j)
     unfolding telling

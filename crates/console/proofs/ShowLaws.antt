@@ -1,43 +1,25 @@
 -- Laws of what a console shows: how it ends, and what is known of bytes in range.
 use Prim.Native.Nat.{ℕ, _≤_, _<_}
 use mathlib.Core.Path.{_≡_, refl, _∙_}
-use mathlib.Core.Bool.{true, false, not, _&&_}
+use mathlib.Core.Bool.{true, false}
 use mathlib.Core.List.{List}
 use lib.ListN.{length}
 use lib.Seq.{sets}
-use lib.Dec.{leb}
-use borrow.Author.Tests.{lt-ltb, le-ltb, leb-true}
-use Rattle.base.specs.Lists.{allBelow}
-use Rattle.base.proofs.Booleans.{both, neither}
+use borrow.Author.Tests.{lt-ltb, le-ltb, not-false}
 use Rattle.base.specs.Results.{Result, refused, accepted, _andThen_}
 use Rattle.base.proofs.Results.{refuse-holds, refuse-passes}
-use Rattle.codec.specs.Bytes.{byteAt, Puts}
+use Rattle.codec.specs.Bytes.{Puts}
 use Rattle.codec.proofs.ByteLaws.{puts-refused, puts-accepted}
-use Rattle.model.specs.Memory.{Network, airLimit, memoryInRange}
-use Rattle.layout.specs.Places.{layoutLength, airAt}
-use Rattle.layout.specs.Stored.{storedNetwork}
-use Rattle.layout.specs.Meaning.{stationHasMeaning, hasMeaning}
+use Rattle.model.specs.Memory.{Network, memoryInRange}
+use Rattle.layout.specs.Meaning.{storedNetwork}
+use Rattle.layout.proofs.MeaningLaws.{Known, known}
 use Rattle.console.specs.Packed.{packed, telling}
-use Rattle.console.specs.Console.{notMemory}
 use Rattle.console.specs.Showing.{outOfRange, showing, shownIn}
-use Rattle.console.proofs.ConsoleLaws.{memory-long, memory-meant}
 
--- Bytes in range: they are long enough, and n and the number of packets are within the layout's places.
-pub record Known (bytes : List ℕ) : Type 0 where
-  pub long : layoutLength ≤ length bytes
-  pub few : byteAt bytes 0 ≤ 16
-  pub room : byteAt bytes airAt ≤ airLimit
-
-pub known : (bytes : List ℕ) → outOfRange bytes ≡ false → Known bytes
-unfolding outOfRange hasMeaning
-known bytes h =
-    let memory = neither (notMemory bytes) (not (memoryInRange (storedNetwork bytes))) h .0 in
-    let n = byteAt bytes 0 in
-    let count = byteAt bytes airAt in
-    let stations = allBelow n (stationHasMeaning bytes n) in
-    let parts = both (leb n 16 && leb count airLimit && stations) _ (memory-meant bytes memory) in
-    let sizes = both (leb n 16) (leb count airLimit) (both (leb n 16 && leb count airLimit) stations (parts .0) .0) in
-    record { long = memory-long bytes memory; few = leb-true n 16 (sizes .0); room = leb-true count airLimit (sizes .1) }
+-- What is known of bytes in range.
+pub range-known : (bytes : List ℕ) → outOfRange bytes ≡ false → Known bytes
+unfolding outOfRange
+range-known bytes h = known bytes (not-false (memoryInRange (storedNetwork bytes)) h)
 
 module _ {A : Type 0} (bytes : List ℕ) (show : Network → Result A) where
   pub showing-1 : outOfRange bytes ≡ true → showing bytes show ≡ refused 1

@@ -6,8 +6,8 @@ use mathlib.Core.List.{List}
 use Rattle.codec.specs.Bytes.{over}
 use Rattle.model.specs.Memory.{Network}
 use Rattle.draining.specs.Draining.{Turn, deliveriesIn, lossesIn, Drained}
-use Rattle.layout.specs.Stored.{storedNetwork}
 use Rattle.layout.specs.Written.{networkBytes}
+use Rattle.layout.specs.Meaning.{storedNetwork}
 use Rattle.console.specs.Packed.{packed, shortAnswerOf, firstOf, secondOf}
 use Rattle.console.specs.Console.{Stores}
 use Rattle.console.specs.Showing.{outOfRange}

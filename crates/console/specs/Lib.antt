@@ -3,6 +3,7 @@ pub mod Console
 pub mod Contracts
 pub mod Draining
 pub mod Showing
+pub mod Parts
 pub mod Previewing
 pub mod Searching
 pub mod Made

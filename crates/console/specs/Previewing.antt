@@ -1,5 +1,5 @@
 -- A preview at the console (02, F-1).
-use Prim.Native.Nat.{ℕ}
+use Prim.Native.Nat.{ℕ, _+_}
 use mathlib.Core.Path.{_≡_}
 use mathlib.Core.List.{List, _++_}
 use lib.ListN.{length}
@@ -8,13 +8,18 @@ use Rattle.codec.specs.Bytes.{littleEndian, putInto}
 use Rattle.label.specs.declared.Label.{Label}
 use Rattle.model.specs.Memory.{Row}
 use Rattle.model.specs.Preview.{Preview, previewing}
+use Rattle.layout.specs.Formats.{labelWide, rowWide}
 use Rattle.layout.specs.Written.{labelBytes, rowBytes}
+use Rattle.layout.specs.Meaning.{storedNetwork}
 use Rattle.console.specs.Packed.{packed}
-use Rattle.console.specs.Showing.{showing, shownIn}
+use Rattle.console.specs.Showing.{shownIn}
 
--- The label (16 bytes), the row (69) and the mask (2), as the layout has them.
+-- The label, the row and the mask (2 bytes), as the layout has them.
 unfoldable pub previewBytes : Label → Row → (mask : ℕ) → List ℕ
 previewBytes label row mask = labelBytes label ++ (rowBytes row ++ littleEndian 2 mask)
+
+abbrev pub previewWide : ℕ
+previewWide = labelWide + rowWide + 2
 
 abbrev pub bytesOf : Preview → List ℕ
 bytesOf v = previewBytes (v .label) (v .row) (v .mask)
@@ -24,7 +29,7 @@ unfoldable pub roomFor : (room : ℕ) → Preview → Result Preview
 roomFor room v = mapped (λ bytes. v) (shownIn room (bytesOf v))
 
 unfoldable pub previewingIn : List ℕ → (k room : ℕ) → Result Preview
-previewingIn bytes k room = showing bytes (λ net. previewing net k) andThen roomFor room
+previewingIn bytes k room = previewing (storedNetwork bytes) k andThen roomFor room
 
 -- What is told of it: the outcome and the packets sent, as of a Deliver.
 unfoldable pub tellingPreview : Result Preview → ℕ

@@ -2,19 +2,20 @@
 -- 6 for a packet that is not there, and 12 for a lent array that is too short.
 use Prim.Native.Nat.{ℕ}
 use mathlib.Core.Bool.{Bool, not, _||_}
-use mathlib.Core.List.{List, [], _∷_, _++_}
+use mathlib.Core.List.{List}
 use lib.ListN.{length}
-use lib.Dec.{ltb}
+use lib.Dec.{ltb, eqb}
+use mir.Val.{boolByte}
+use Rattle.base.specs.Choice.{if_then_else_}
 use Rattle.base.specs.Results.{Result, accepted, refuse_when_otherwise_}
-use Rattle.codec.specs.Bytes.{littleEndian}
-use Rattle.model.specs.Memory.{Network, labelAt, rowAt, recordAt, linkUp, requestNumberAt, soughtAt, isActive, packetAt, memoryInRange}
+use Rattle.model.specs.Memory.{Network, labelAt, rowAt, recordAt, linkUp, packetAt, memoryInRange}
 use Rattle.model.specs.Calls.{notStation, notPair, notPacket}
-use Rattle.layout.specs.Stored.{storedNetwork}
-use Rattle.layout.specs.Written.{flag, labelBytes, rowBytes, recordBytes, packetBytes}
-use Rattle.console.specs.Console.{notMemory}
+use Rattle.layout.specs.Formats.{stationOf}
+use Rattle.layout.specs.Written.{labelBytes, rowBytes, recordBytes, stationBytes, packetBytes}
+use Rattle.layout.specs.Meaning.{storedNetwork}
 
 unfoldable pub outOfRange : List ℕ → Bool
-outOfRange bytes = notMemory bytes || not (memoryInRange (storedNetwork bytes))
+outOfRange bytes = not (memoryInRange (storedNetwork bytes))
 
 -- What a definition shows of the network.
 unfoldable pub showing : {A : Type 0} → List ℕ → (Network → Result A) → Result A
@@ -37,7 +38,7 @@ showAir net = accepted (length (net .air))
 unfoldable pub showLink : (a b : ℕ) → Network → Result ℕ
 showLink a b net =
     refuse 2 when notPair net a b otherwise
-    accepted (flag (linkUp net a b))
+    accepted (boolByte (linkUp net a b))
 
 unfoldable pub showLabel : (i t : ℕ) → Network → Result (List ℕ)
 showLabel i t net =
@@ -54,16 +55,22 @@ showRecord i source net =
     refuse 2 when notPair net i source otherwise
     accepted (recordBytes (recordAt net i source))
 
--- The last request number (4 bytes), the destination last sought, and whether the station is active.
-unfoldable pub stationBytes : (number sought : ℕ) → Bool → List ℕ
-stationBytes number sought active = littleEndian 4 number ++ (sought ∷ flag active ∷ [])
-
+-- What a station keeps of its own requests.
 unfoldable pub showStation : (i : ℕ) → Network → Result (List ℕ)
 showStation i net =
     refuse 2 when notStation net i otherwise
-    accepted (stationBytes (requestNumberAt net i) (soughtAt net i) (isActive net i))
+    accepted (stationBytes (stationOf net i))
 
 unfoldable pub showPacket : (k : ℕ) → Network → Result (List ℕ)
 showPacket k net =
     refuse 6 when notPacket net k otherwise
     accepted (packetBytes (packetAt net k))
+
+-- A part of the network, by its number.
+abbrev pub showPart : (part i t : ℕ) → Network → Result (List ℕ)
+showPart part i t =
+    if eqb part 1 then showLabel i t
+    else if eqb part 2 then showRow i t
+    else if eqb part 3 then showRecord i t
+    else if eqb part 4 then showStation i
+    else showPacket i

@@ -3,12 +3,11 @@ ghost use mathlib.Core.Logic.{_≢_};
 ghost use Prim.Native.Nat.{ℕ, _<_};
 ghost use Rattle.model.specs.Calls.{trace};
 ghost use Rattle.model.specs.Walks.{WalksEnd};
-ghost use Rattle.layout.specs.Stored.{storedNetwork};
+ghost use Rattle.layout.specs.Meaning.{storedNetwork};
 ghost use Rattle.console.specs.Draining.{DrainsBytes};
 ghost use Rattle.console.specs.Made.{MadeBytes};
-use crate::not_memory;
 use crate::packed_two;
-use layout::memory::read;
+use layout::memory::load;
 use layout::memory::write;
 use sandbox::calls;
 
@@ -20,10 +19,7 @@ pub extern "C" fn srp_drain(memory: &mut [u8]) -> u64
     ensures loop_free { λ _. ⌜ (MadeBytes (now (memory .entry)) → (a t : ℕ) → a < storedNetwork (now (memory .exit)) .n → t < storedNetwork (now (memory .exit)) .n → a ≢ t
         → WalksEnd (storedNetwork (now (memory .exit))) a t (trace (storedNetwork (now (memory .exit))) a t)) ⌝ }
 {
-    if not_memory(memory) {
-        return 1;
-    }
-    let drained = calls::drain(read(memory));
+    let drained = calls::drain(load(memory));
     let deliveries = drained.deliveries;
     let losses = drained.losses;
     if drained.answer != 0 {

@@ -1,18 +1,16 @@
 // The console: entry points for C on numbers and byte slices (include/srp.h, docs/LAYOUT.md). No function asks anything of its caller.
 // Results are two numbers in one: specs/Packed.antt.
 ghost use mathlib.Core.Path.{_≡_};
+ghost use mathlib.Core.Bool.{false};
 ghost use Prim.Native.Nat.{_≤_, _<_};
 ghost use lib.ListN.{length};
 ghost use Rattle.base.specs.Results.{isRefusal};
 ghost use Rattle.layout.specs.Places.{layoutLength};
 ghost use Rattle.console.specs.Packed.{packed, packedTwo};
-ghost use Rattle.console.specs.Console.{notMemory};
 ghost use Rattle.console.specs.Showing.{outOfRange};
 ghost use Rattle.console.specs.Contracts.{Finished};
-use layout::meaning::has_meaning;
-use layout::memory::read;
+use layout::memory::load;
 use layout::memory::write;
-use layout::places::LENGTH;
 use network::range::in_range;
 use steps::Done;
 
@@ -39,24 +37,11 @@ fn packed_two(answer: u32, first: u32, second: u32) -> u64
     answer as u64 + 65536 * (first as u64) + 1099511627776 * (second as u64)
 }
 
-// Whether the bytes are too few, or have no meaning.
-fn not_memory(bytes: &[u8]) -> bool
-    ensures { λ r. ⌜ r ≡ notMemory (now (bytes .entry)) ⌝ }
-{
-    if bytes.len() < LENGTH {
-        return true;
-    }
-    !has_meaning(bytes)
-}
-
-// Whether they are not memory, or memory out of range.
+// Whether the memory that stands in the bytes is out of range.
 fn out_of_range(bytes: &[u8]) -> bool
     ensures { λ r. ⌜ r ≡ outOfRange (now (bytes .entry)) ⌝ }
 {
-    if not_memory(bytes) {
-        return true;
-    }
-    !in_range(read(bytes))
+    !in_range(load(bytes))
 }
 
 // Whether an answer is a refusal.
@@ -68,7 +53,7 @@ fn refused(answer: u32) -> bool
 
 // What a call gave, written into the bytes where it was accepted.
 fn finish(bytes: &mut [u8], done: Done) -> u64
-    requires { ⌜ layoutLength ≤ length (now bytes) ⌝ }
+    requires { ⌜ (isRefusal (done .answer) ≡ false → layoutLength ≤ length (now bytes)) ⌝ }
     ensures { λ r. ⌜ Finished done (now (bytes .entry)) r (now (bytes .exit)) ⌝ }
 {
     let answer = done.answer;

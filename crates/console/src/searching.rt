@@ -4,6 +4,7 @@ ghost use Rattle.console.specs.Packed.{telling};
 ghost use Rattle.console.specs.Searching.{searching};
 use crate::packed;
 use layout::entries::read_row;
+use layout::formats::ROW_BYTES;
 use rows::ROW_LIMIT;
 use rows::find;
 
@@ -12,7 +13,7 @@ use rows::find;
 pub extern "C" fn srp_find(row: &[u8], j: usize) -> u64
     ensures { λ r. ⌜ r ≡ telling (searching (now (row .entry)) j) ⌝ }
 {
-    if row.len() < 69 {
+    if row.len() < ROW_BYTES {
         return 1;
     }
     let entries = read_row(row, 0);

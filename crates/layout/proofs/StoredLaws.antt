@@ -1,22 +1,19 @@
 -- What stands at a place of the network that the bytes read as.
 use Prim.Native.Nat.{ℕ, _+_, _*_, _<_}
 use mathlib.Core.Path.{_≡_, refl, sym, ap, _∙_}
-use mathlib.Core.Bool.{Bool, false}
+use mathlib.Core.Bool.{false}
 use mathlib.Core.List.{List, [], map}
-use lib.ListN.{length, getD}
+use lib.ListN.{length, getD, List·getD-map}
 use Rattle.base.specs.Lists.{tabulate}
 use Rattle.base.proofs.Loops.{tabulate-at, tabulate-is, tabulate-length, tabulate-part, map-tabulate}
 use Rattle.label.specs.declared.Label.{Label}
 use Rattle.label.specs.Label.{label}
 use Rattle.codec.specs.Bytes.{byteAt}
 use Rattle.codec.specs.Tables.{tableAt, padded, countedAt}
-use Rattle.model.specs.Memory.{zeroLabel, zeroRecord, zeroPacket, airLimit}
-use Rattle.network.specs.declared.RequestNumber.{RequestNumber}
+use Rattle.model.specs.Memory.{Packet, zeroLabel, zeroRecord, zeroPacket, airLimit}
 use Rattle.network.specs.View.{labelOf}
-use Rattle.layout.specs.declared.memory.Stations as code
-use Rattle.layout.specs.Formats.{labelWide, rowWide, recordWide, Station, stationWide, zeroStation, linkWide, packetWide}
+use Rattle.layout.specs.Formats.{labelWide, rowWide, recordWide, Station, stationWide, stationOf, zeroStation, linkWide, packetWide}
 use Rattle.layout.specs.Places.{stationsAt, linksAt, labelsAt, rowsAt, recordsAt, airAt, packetsAt}
-use Rattle.layout.specs.Entries.{stationAt, stationsFrom}
 use Rattle.layout.specs.Stored.{storedLabel, storedRow, storedRecord, storedStation, storedLink, storedPacket, storedAir, storedStations, networkIn}
 
 -- Tables of s, m and d, and of what stations keep, that were read from the bytes.
@@ -42,3 +39,41 @@ module _ (bytes : List ℕ) where
   pub stations-stored : {A : Type 0} (g : Station → A) → tabulate 16 (λ k. g (storedStation bytes (stationsAt + stationWide * k))) ≡ map g (storedStations bytes)
   unfolding storedStations tableAt
   stations-stored g = sym (map-tabulate g 16 (λ k. storedStation bytes (stationsAt + stationWide * k)))
+
+-- What a place holds.
+module _ (bytes : List ℕ) (k : ℕ) where
+  pub label-at : k < 256 → getD (networkIn bytes .labels) k zeroLabel ≡ storedLabel bytes (labelsAt + labelWide * k)
+  unfolding networkIn tableAt
+  label-at m = tabulate-at 256 (λ j. storedLabel bytes (labelsAt + labelWide * j)) k zeroLabel m
+
+  pub row-at : k < 256 → getD (networkIn bytes .rows) k [] ≡ storedRow bytes (rowsAt + rowWide * k)
+  unfolding networkIn tableAt
+  row-at m = tabulate-at 256 (λ j. storedRow bytes (rowsAt + rowWide * j)) k [] m
+
+  pub record-at : k < 256 → getD (networkIn bytes .records) k zeroRecord ≡ storedRecord bytes (recordsAt + recordWide * k)
+  unfolding networkIn tableAt
+  record-at m = tabulate-at 256 (λ j. storedRecord bytes (recordsAt + recordWide * j)) k zeroRecord m
+
+  pub link-at : k < 256 → getD (networkIn bytes .links) k false ≡ storedLink bytes (linksAt + linkWide * k)
+  unfolding networkIn tableAt
+  link-at m = tabulate-at 256 (λ j. storedLink bytes (linksAt + linkWide * j)) k false m
+
+  pub station-at : k < 16 → stationOf (networkIn bytes) k ≡ storedStation bytes (stationsAt + stationWide * k)
+  unfolding networkIn storedStations tableAt zeroStation
+  station-at m =
+      let found = storedStations bytes in
+      let number = List·getD-map (λ (x : Station). x .number) found k zeroStation in
+      let sought = List·getD-map (λ (x : Station). x .sought) found k zeroStation in
+      let active = List·getD-map (λ (x : Station). x .active) found k zeroStation in
+      (λ i. record { number = number i; sought = sought i; active = active i }) ∙ tabulate-at 16 (λ j. storedStation bytes (stationsAt + stationWide * j)) k zeroStation m
+
+  -- The air has as many packets as it counts.
+  pub packet-at : k < byteAt bytes airAt → k < airLimit → getD (networkIn bytes .air) k zeroPacket ≡ storedPacket bytes (packetsAt + packetWide * k)
+  unfolding networkIn storedAir countedAt padded tableAt
+  packet-at h m =
+      let f : ℕ → Packet = λ j. storedPacket bytes (packetsAt + packetWide * j) in
+      tabulate-at (byteAt bytes airAt) (λ j. getD (tabulate airLimit f) j zeroPacket) k zeroPacket h ∙ tabulate-at airLimit f k zeroPacket m
+
+pub air-count : (bytes : List ℕ) → length (networkIn bytes .air) ≡ byteAt bytes airAt
+unfolding networkIn storedAir countedAt padded
+air-count bytes = tabulate-length (byteAt bytes airAt) _

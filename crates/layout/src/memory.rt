@@ -88,11 +88,7 @@ fn read_labels(bytes: &[u8]) -> Labels
         d[i] = label.d;
         i += 1;
     }
-    Labels {
-        s: s,
-        m: m,
-        d: d,
-    }
+    Labels { s: s, m: m, d: d }
 }
 
 fn read_rows(bytes: &[u8]) -> [Row; 256]
@@ -249,11 +245,7 @@ fn write_labels(out: &mut [u8], s: [u64; 256], m: [u32; 256], d: [u32; 256])
 {
     let mut i = 0;
     while i < 256 {
-        put_label(
-            out,
-            LABELS_AT + LABEL_BYTES * i,
-            label_of(s[i], m[i], d[i]),
-        );
+        put_label(out, LABELS_AT + LABEL_BYTES * i, label_of(s[i], m[i], d[i]));
         i += 1;
     }
 }

@@ -29,7 +29,7 @@ use validation::narrow;
 use validation::open_refused;
 
 // The call of a kind, 1 to 8. An operand that it does not use is 0.
-fn call(memory: Memory, kind: u8, a: usize, b: usize) -> Done
+pub fn call(memory: Memory, kind: u8, a: usize, b: usize) -> Done
     ensures { λ r. ⌜ (kind ≢ 9 → notEvent kind b ≡ false → Called memory (step (callOf kind a b) (view memory)) r) ⌝ }
 {
     if !in_range(memory) {

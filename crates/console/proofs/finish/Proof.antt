@@ -18,7 +18,9 @@ returns : tie.Need-returns
 returns c = record { result = c .packed .ensures; unchanged = λ h. refl; written = λ h. clash (was-true _ _ (c .before .before .refused .ensures) (c .before .if1 .taken)) h }
 
 write-requires : tie.Need-write-requires
-write-requires c κs = search needs
+write-requires c κs =
+    let past = c .before .before in
+    past .before .before .before .pre (was-false _ _ (past .before .refused .ensures) (past .if1 .left))
 
 cast-packed-2 : tie.Need-cast-packed-2
 cast-packed-2 c = search needs

@@ -1,16 +1,20 @@
 -- `calls::srp_open` meets its contract: refused with 1 for the length, or the call.
-use mathlib.Core.Path.{refl}
+use mathlib.Core.Path.{_≡_, refl, _∙_}
+use mathlib.Core.Bool.{false}
 use borrow.Author.Needs.{needs}
 use borrow.Author.Tests.{lt-ltb, le-ltb}
 use Rattle.model.specs.Calls.{Open, step}
-use Rattle.console.specs.Console.{tooShort, unreadable}
-use Rattle.console.proofs.ConsoleLaws.{ends-1, ends-finished}
+use Rattle.layout.specs.Meaning.{tooShort}
+use Rattle.console.specs.Console.{Ends}
+use Rattle.console.proofs.ConsoleLaws.{calling-short, calling-long, ends-finished}
 use Rattle.console.proofs.calls.srp_open.Statement.{statement}
 use Rattle.console.proofs.calls.srp_open.Tie as tie
 
 returns : tie.Need-returns
-unfolding unreadable tooShort
-returns c = ends-1 (Open _ _) _ (lt-ltb _ _ (c .if1 .taken))
+unfolding Ends tooShort
+returns c =
+    let args = c .before .before .args in
+    rw (calling-short (Open (args .n) (args .start)) (args .memory .now) (lt-ltb _ _ (c .if1 .taken))) (refl, refl)
 
 fresh-requires : tie.Need-fresh-requires
 fresh-requires c κs = search needs
@@ -25,12 +29,13 @@ same-length : tie.Need-same-length
 same-length c = search needs
 
 returns-2 : tie.Need-returns-2
-unfolding unreadable tooShort step
+unfolding tooShort step
 returns-2 c =
     let call = c .before .before .before in
     let past = call .before .before .before in
     let args = past .before .before .args in
-    ends-finished (Open (args .n) (args .start)) (args .memory .now) _ _ _ (le-ltb _ _ (past .if1 .left)) (past .if1 .left) _ refl (call .«open» .ensures) (c .before .before .finish .ensures)
+    let it = Open (args .n) (args .start) in
+    ends-finished it (args .memory .now) _ _ (call .«open» .ensures) (calling-long it (args .memory .now) (le-ltb _ _ (past .if1 .left))) _ _ (c .before .before .finish .ensures)
 
 pub srp-open-spec : {M : Type 1} → statement M
 srp-open-spec =

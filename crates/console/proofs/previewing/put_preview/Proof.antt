@@ -1,4 +1,5 @@
 -- `previewing::put_preview` meets its contract: a label, a row and a number, put one after the other.
+use Prim.Native.Nat.{_+_}
 use mathlib.Core.Path.{_∙_}
 use mathlib.Core.List.{_++_}
 use lib.Seq.{sets}
@@ -6,8 +7,10 @@ use native.Mathlib.Omega.{arith}
 use borrow.Author.Needs.{needs}
 use Rattle.codec.specs.Bytes.{littleEndian}
 use Rattle.codec.proofs.ByteLaws.{sets-next}
+use Rattle.codec.proofs.FieldLaws.{written-wide}
 use Rattle.layout.specs.Written.{labelBytes, rowBytes}
-use Rattle.layout.proofs.EntryLaws.{label-wide, row-wide}
+use Rattle.layout.specs.Formats.{labelFormat, labelWide, rowWide}
+use Rattle.layout.proofs.EntryLaws.{row-wide}
 use Rattle.rows.specs.View.{rowOf}
 use Rattle.console.specs.Previewing.{previewBytes}
 use Rattle.console.proofs.previewing.put_preview.Statement.{statement}
@@ -18,6 +21,9 @@ put-label-requires c κs = search needs
 
 put-row-requires : tie.Need-put-row-requires
 put-row-requires c κs = search needs
+
+add-put-number : tie.Need-add-put-number
+add-put-number c = search needs
 
 put-number-requires : tie.Need-put-number-requires
 put-number-requires c κs = search needs
@@ -35,7 +41,7 @@ returns c =
     let mask = littleEndian 2 (args .mask) in
     c .before .before .put-number .ensures
     ∙ rw (c .before .before .before .before .before .before .put-row .ensures .0, c .before .before .before .before .before .before .before .before .before .before .put-label .ensures .0)
-    (sets-next first 16 85 row mask (omega (arith, row-wide (rowOf (args .row)))) ∙ sets-next (args .out .now) 0 16 l (row ++ mask) (omega (arith, label-wide (args .label))))
+    (sets-next first labelWide (labelWide + rowWide) row mask (omega (arith, row-wide (rowOf (args .row)))) ∙ sets-next (args .out .now) 0 labelWide l (row ++ mask) (omega (arith, written-wide labelFormat (args .label))))
 
 pub put-preview-spec : {M : Type 1} → statement M
-put-preview-spec = tie.close (tie.spec put-label-requires put-row-requires put-number-requires same-length returns)
+put-preview-spec = tie.close (tie.spec put-label-requires put-row-requires add-put-number put-number-requires same-length returns)

@@ -1,18 +1,17 @@
 -- `showing::srp_size` meets its contract: refused with 1, or n.
-use mathlib.Core.Path.{_≡_}
-use mathlib.Core.Bool.{false}
 use native.Mathlib.Omega.{arith}
 use borrow.Author.Needs.{needs}
 use Rattle.base.proofs.Booleans.{was-true, was-false}
-use Rattle.console.specs.Showing.{outOfRange}
-use Rattle.console.proofs.ShowLaws.{known, tells-1, tells-value}
+use Rattle.layout.specs.Places.{sizeAt}
+use Rattle.layout.proofs.MeaningLaws.{Known}
+use Rattle.console.proofs.ShowLaws.{range-known, tells-1, tells-value}
 use Rattle.console.proofs.ShownLaws.{show-size}
 use Rattle.console.proofs.showing.srp_size.Statement.{statement}
 use Rattle.console.proofs.showing.srp_size.Tie as tie
 
 -- Past the first test the bytes are in range.
-in-range : (c : tie.Else1) → outOfRange (c .before .before .before .args .memory .now) ≡ false
-in-range c = was-false _ _ (c .before .out-of-range .ensures) (c .if1 .left)
+here : (c : tie.Else1) → Known (c .before .before .before .args .memory .now)
+here c = range-known _ (was-false _ _ (c .before .out-of-range .ensures) (c .if1 .left))
 
 out-of-range-requires : tie.Need-out-of-range-requires
 out-of-range-requires c κs = search needs
@@ -21,16 +20,18 @@ returns : tie.Need-returns
 returns c = tells-1 _ _ (was-true _ _ (c .before .out-of-range .ensures) (c .if1 .taken))
 
 shared-slice-read-packed : tie.Need-shared-slice-read-packed
-shared-slice-read-packed c = omega (arith, known _ (in-range (c .before)))
+shared-slice-read-packed c = omega (arith, here (c .before))
 
 cast-packed : tie.Need-cast-packed
-cast-packed c = omega (arith, c .shared-slice-known2 .given 0)
+cast-packed c = omega (arith, c .shared-slice-known2 .given sizeAt)
 
 packed-requires : tie.Need-packed-requires
 packed-requires c κs = search needs
 
 returns-2 : tie.Need-returns-2
-returns-2 c = tells-value _ _ _ _ (in-range (c .before .before)) (show-size _) (c .packed .ensures)
+returns-2 c =
+    let past = c .before .before in
+    tells-value _ _ _ _ (was-false _ _ (past .before .out-of-range .ensures) (past .if1 .left)) (show-size _ (here past)) (c .packed .ensures)
 
 pub srp-size-spec : {M : Type 1} → statement M
 srp-size-spec =
