@@ -5,7 +5,7 @@ use mathlib.Core.Logic.{_≢_}
 use mathlib.Core.Bool.{true}
 use mathlib.Core.List.{List, [], _∷_, _++_}
 use lib.ListN.{length, getD, take, drop, set, length-append, length-drop}
-use lib.Seq.{sets, sets-eq, set-comm, take-at, take-add, length-take-le, drop-drop, drop-cons}
+use lib.Seq.{sets, sets-eq, take-at, take-add, length-take-le, drop-drop, drop-cons}
 use native.Mathlib.Nat.{pow-suc, pow-succ', add-zero, zero-add, suc-add, mul-add, mul-assoc, div-one, div-div-eq-div-mul}
 use native.Mathlib.Omega.{arith}
 use borrow.Author.Tests.{eqb-true, ne-eqb}
@@ -23,17 +23,6 @@ sets-append l at (x ∷ xs) ys =
 
 pub sets-next : {A : Type 0} (l : List A) (at end : ℕ) (xs ys : List A) → end ≡ at + length xs → sets (sets l at xs) end ys ≡ sets l at (xs ++ ys)
 sets-next l at end xs ys e = rw e (sets-append l at xs ys)
-
--- Elements put below others don't meet them.
-set-apart : {A : Type 0} (l : List A) (i j : ℕ) (xs : List A) (y : A) → j < i → set (sets l i xs) j y ≡ sets (set l j y) i xs
-set-apart l i j [] y h = refl
-set-apart l i j (x ∷ xs) y h =
-    set-apart (set l i x) (suc i) j xs y (omega arith) ∙ ap (λ z. sets z (suc i) xs) (set-comm l i j x y (λ e. omega arith))
-
-pub sets-apart : {A : Type 0} (l : List A) (i j : ℕ) (xs ys : List A) → j + length ys ≤ i → sets (sets l i xs) j ys ≡ sets (sets l j ys) i xs
-sets-apart l i j xs [] h = refl
-sets-apart l i j xs (y ∷ ys) h =
-    ap (λ z. sets z (suc j) ys) (set-apart l i j xs y (omega arith)) ∙ sets-apart (set l j y) i (suc j) xs ys (omega arith)
 
 -- What is put at the start stands before what is kept, and is read back.
 pub sets-over : (l written : List ℕ) → length written ≤ length l → sets l 0 written ≡ over written l
@@ -141,8 +130,3 @@ unfolding AllBytes
 bytes-drop zero l h = h
 bytes-drop (suc k) [] h = tt
 bytes-drop (suc k) (x ∷ l) h = bytes-drop k l (h .1)
-
-pub bytes-little : (width v : ℕ) → AllBytes (littleEndian width v)
-unfolding littleEndian AllBytes
-bytes-little zero v = tt
-bytes-little (suc width) v = (omega arith, bytes-little width (v / 256))

@@ -1,8 +1,8 @@
 -- What is written by a format reads back by it.
-use Prim.Native.Nat.{ℕ, zero, suc, _+_, _*_, _≤_, _<_}
+use Prim.Native.Nat.{ℕ, zero, suc, _+_, _≤_, _<_}
 use mathlib.Core.Path.{_≡_, refl, ap, ap₂, sym, _∙_}
 use mathlib.Core.Bool.{Bool, true, false, _&&_}
-use mathlib.Core.List.{List, [], _∷_, _++_, flatMap, append-nil}
+use mathlib.Core.List.{List, [], _∷_, _++_, append-nil}
 use lib.ListN.{length, getD, take, drop, set, length-append, length-take, drop-of-length-le}
 use lib.Seq.{sets, drop-cons, take-all, take-suc-set, append-snoc}
 use lib.Dec.{ltb, eqb}
@@ -12,7 +12,7 @@ use native.Mathlib.Omega.{arith}
 use Rattle.base.proofs.Booleans.{both}
 use Rattle.codec.specs.Bytes.{isWidth, littleEndian, numberAt, AllBytes}
 use Rattle.codec.proofs.ByteLaws.{sets-next, little-length, number-below, bytes-take, bytes-drop}
-use Rattle.codec.proofs.TableLaws.{Stands, stands-first, stands-rest, stands-number, stands-entry}
+use Rattle.codec.proofs.TableLaws.{Stands, stands-first, stands-rest, stands-number}
 use Rattle.codec.specs.Fields.{Field, number, flag, widths, values, total, entryBytes, valuesAt, placeOf, FitFrom, AllFit, areWidths, written, Fits, read, flagsFrom, flagsAt}
 
 -- The width of an entry is the sum of its fields' widths.

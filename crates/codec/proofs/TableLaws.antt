@@ -1,6 +1,6 @@
 -- Laws of what stands in bytes at a place, and of tables in bytes.
-use Prim.Native.Nat.{ℕ, zero, suc, _+_, _*_, _^_, _≤_, _<_}
-use mathlib.Core.Path.{_≡_, refl, sym, ap, ap₂, subst, _∙_}
+use Prim.Native.Nat.{ℕ, zero, suc, _+_, _*_, _^_, _<_}
+use mathlib.Core.Path.{_≡_, refl, sym, ap, subst, _∙_}
 use mathlib.Core.Bool.{Bool, true, false}
 use mathlib.Core.List.{List, [], _∷_, _++_, map, flatMap}
 use lib.ListN.{length, getD, take, drop, length-append, List·getD-eq-default}
@@ -16,7 +16,7 @@ use Rattle.base.proofs.Loops.{tabulate-length, tabulate-at, tabulate-is, tabula
 use Rattle.codec.specs.Bytes.{littleEndian, number, byteAt, numberAt}
 use Rattle.codec.specs.Fields.{total, placeOf}
 use Rattle.codec.specs.Tables.{tableAt, padded, countedBytes, countedAt, TableFits, CountedFits, joined}
-use Rattle.codec.proofs.ByteLaws.{sets-append, sets-next, little-length, number-little}
+use Rattle.codec.proofs.ByteLaws.{sets-append, little-length, number-little}
 
 -- These bytes stand in the others at a place.
 pub record Stands (part bytes : List ℕ) (at : ℕ) : Type 0 where

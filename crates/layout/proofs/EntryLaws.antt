@@ -1,5 +1,5 @@
 -- What was written as an entry reads back as it: labels, entries of rows, rows, records, stations, links and packets.
-use Prim.Native.Nat.{ℕ, suc, _+_, _*_, _≤_}
+use Prim.Native.Nat.{ℕ, _+_, _*_, _≤_}
 use mathlib.Core.Path.{_≡_, refl, sym, ap, ap₂, _∙_}
 use mathlib.Core.Bool.{Bool, true, false}
 use mathlib.Core.List.{List}
@@ -29,7 +29,7 @@ use Rattle.network.specs.declared.Air.{Air}
 use Rattle.network.specs.View as view
 use Rattle.network.specs.View.{recordOf, requestOf, replyOf, bodyOf, packetOf, packetsOf, airOf}
 use Rattle.network.proofs.PacketLaws.{packetIn}
-use Rattle.layout.specs.Formats.{labelFormat, labelFrom, successorFormat, successorFrom, successorWide, zeroSuccessor, rowWide, recordFormat, recordFrom, Station, stationFormat, stationFrom, linkFormat, linkFrom, packetFormat, resetIn, packetFrom, packetWide, airWide, plainBody, plainOf, Known}
+use Rattle.layout.specs.Formats.{labelFormat, labelFrom, successorFormat, successorFrom, successorWide, zeroSuccessor, rowWide, recordFormat, recordFrom, Station, stationFormat, stationFrom, linkFormat, linkFrom, packetFormat, resetIn, packetFrom, packetWide, airWide, plainBody, plainOf, withBody, Known}
 use Rattle.layout.specs.declared.memory.Stations.{Stations}
 use Rattle.layout.specs.Entries.{recordIn, stationAt}
 use Rattle.layout.specs.Stored.{storedLabel, storedSuccessor, storedRow, storedRecord, storedStation, storedLink, storedFields, storedPacket, storedAir}
@@ -81,32 +81,32 @@ row-back bytes at r fits h =
     counted-back successorBytes _ (written-wide successorFormat) rowLimit zeroSuccessor bytes at r h (Fits successorFormat) storedSuccessor successor-back fits
 
 -- The packet that is written for one is read as it, and its bytes have a meaning.
-plain-body : (a b : ℕ) (body : Body) → Known body → packetOf (plainBody a b body) ≡ record { sender = a; receiver = b; body = body }
+plain-body : (p : Packet) (body : Body) → Known body → packetOf (plainBody p body) ≡ withBody p body
 unfolding Known requestOf replyOf bodyOf packetOf plainBody
-plain-body a b (request R) h = refl
-plain-body a b (reply v) h = refl
-plain-body a b (error mask) h = refl
-plain-body a b (other kind) h = rw (ne-eqb kind 1 (h .0), ne-eqb kind 2 (h .1), ne-eqb kind 3 (h .2))
+plain-body p (request R) h = refl
+plain-body p (reply v) h = refl
+plain-body p (error mask) h = refl
+plain-body p (other kind) h = rw (ne-eqb kind 1 (h .0), ne-eqb kind 2 (h .1), ne-eqb kind 3 (h .2))
 
-plain-meant : (a b : ℕ) (body : Body) → Known body → fieldsHaveMeaning (plainBody a b body) (boolByte (plainBody a b body .reset)) ≡ true
+plain-meant : (p : Packet) (body : Body) → Known body → fieldsHaveMeaning (plainBody p body) (boolByte (plainBody p body .reset)) ≡ true
 unfolding Known plainBody fieldsHaveMeaning isZeroLabel
-plain-meant a b (request R) h = flag-is (R .reset)
-plain-meant a b (reply v) h = refl
-plain-meant a b (error mask) h = refl
-plain-meant a b (other kind) h = rw (ne-eqb kind 1 (h .0), ne-eqb kind 2 (h .1), ne-eqb kind 3 (h .2))
+plain-meant p (request R) h = flag-is (R .reset)
+plain-meant p (reply v) h = refl
+plain-meant p (error mask) h = refl
+plain-meant p (other kind) h = rw (ne-eqb kind 1 (h .0), ne-eqb kind 2 (h .1), ne-eqb kind 3 (h .2))
 
 module _ (bytes : List ℕ) (at : ℕ) (p : Packet) (fits : PacketFits p) (h : Stands (packetBytes p) bytes at) where
   made : packetFrom (values packetFormat (plainOf p)) ≡ plainOf p
   made = simp flag-back
 
   pub packet-back : storedPacket bytes at ≡ p
-  packet-back = ap packetOf (entry-back packetFormat bytes at (plainOf p) (fits .0) h packetFrom made) ∙ plain-body (p .sender) (p .receiver) (p .body) (fits .1)
+  packet-back = ap packetOf (entry-back packetFormat bytes at (plainOf p) (fits .0) h packetFrom made) ∙ plain-body p (p .body) (fits .1)
 
   pub packet-meant : packetHasMeaning bytes at ≡ true
   unfolding packetHasMeaning
   packet-meant =
       ap (λ (v : List ℕ). fieldsHaveMeaning (packetFrom v) (resetIn v)) (format-back packetFormat bytes at (plainOf p) (fits .0) h)
-      ∙ ap (λ q. fieldsHaveMeaning q (boolByte (plainOf p .reset))) made ∙ plain-meant (p .sender) (p .receiver) (p .body) (fits .1)
+      ∙ ap (λ q. fieldsHaveMeaning q (boolByte (plainOf p .reset))) made ∙ plain-meant p (p .body) (fits .1)
 
 -- A row whose labels and stations are those of the entries at a place.
 pub row-stored : (bytes : List ℕ) (at : ℕ) (row : code.Row) → row .labels ≡ tabulate rowLimit (λ j. storedSuccessor bytes (at + 1 + successorWide * j) .label)

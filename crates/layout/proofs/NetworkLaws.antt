@@ -1,7 +1,7 @@
 -- Laws of a whole network in bytes: the widths of its parts, and that the parts put one after the other are the whole.
 use Prim.Native.Nat.{ℕ}
-use mathlib.Core.Path.{_≡_, refl, _∙_, ap}
-use mathlib.Core.List.{List, [], _∷_, map, flatMap}
+use mathlib.Core.Path.{_≡_, _∙_, ap}
+use mathlib.Core.List.{List, [], _∷_, map}
 use lib.ListN.{length}
 use lib.Seq.{sets}
 use Rattle.base.proofs.Loops.{tabulate-length}

@@ -1,28 +1,26 @@
 -- What was written reads back: the whole network, and its bytes have a meaning.
 use Prim.Native.Nat.{ℕ, _+_, _*_, _≤_, _<_}
-use mathlib.Core.Path.{_≡_, refl, sym, ap, _∙_}
-use mathlib.Core.Bool.{Bool, true, false, or-true}
-use mathlib.Core.List.{List, [], _∷_, _++_, map, flatMap}
+use mathlib.Core.Path.{_≡_, refl, ap, _∙_}
+use mathlib.Core.Bool.{true, false, or-true}
+use mathlib.Core.List.{List, [], _++_, map}
 use lib.ListN.{length, getD, length-append}
-use lib.Dec.{eqb}
 use native.Mathlib.Omega.{arith}
 use borrow.Author.Tests.{le-leb}
-use Rattle.base.specs.Lists.{tabulate}
 use Rattle.base.proofs.Booleans.{passes}
 use Rattle.base.proofs.Lists.{all-below}
-use Rattle.base.proofs.Loops.{tabulate-is, tabulate-at, map-tabulate}
+use Rattle.base.proofs.Loops.{tabulate-is, map-tabulate}
 use Rattle.codec.specs.Bytes.{byteAt}
 use Rattle.codec.specs.Fields.{Fits, placeOf, flagsAt}
 use Rattle.codec.specs.Tables.{joined}
 use Rattle.codec.proofs.FieldLaws.{written-wide, flags-back}
 use Rattle.codec.proofs.TableLaws.{Stands, stands-whole, stands-byte, stands-entry, stands-part, table-back, count-back, counted-stands, counted-back}
-use Rattle.model.specs.Memory.{Packet, Network, place, zeroLabel, zeroRecord, zeroPacket, airLimit}
+use Rattle.model.specs.Memory.{Network, place, zeroLabel, zeroRecord, zeroPacket, airLimit}
 use Rattle.layout.specs.Formats.{labelFormat, labelWide, rowWide, recordFormat, recordWide, Station, stationFormat, stationWide, stationOf, zeroStation, linkFormat, linkWide, packetWide}
 use Rattle.layout.specs.Places.{layoutVersion, partWidths, layoutLength, sizeAt, stationsAt, linksAt, labelsAt, rowsAt, recordsAt, airAt, packetsAt}
 use Rattle.layout.specs.Stored.{storedLabel, storedRow, storedRecord, storedStation, storedLink, storedPacket, storedAir, storedStations, networkIn}
-use Rattle.layout.specs.Written.{labelBytes, rowBytes, recordBytes, stationBytes, stationsOf, linkBytes, packetBytes, airBytes, networkParts, networkBytes}
+use Rattle.layout.specs.Written.{labelBytes, rowBytes, recordBytes, stationBytes, stationsOf, linkBytes, packetBytes, networkParts, networkBytes}
 use Rattle.layout.specs.Fits.{RowFits, PacketFits, NetworkFits}
-use Rattle.layout.specs.Meaning.{pairHasMeaning, stationHasMeaning, packetHasMeaning, sizesHaveMeaning, hasMeaning, tooShort, notMemory, storedNetwork}
+use Rattle.layout.specs.Meaning.{pairHasMeaning, stationHasMeaning, packetHasMeaning, hasMeaning, storedNetwork}
 use Rattle.layout.proofs.EntryLaws.{row-wide, packet-wide, label-back, row-back, record-back, station-back, link-back, packet-back, packet-meant}
 use Rattle.layout.proofs.NetworkLaws.{parts-wide, network-wide}
 use Rattle.layout.proofs.MeaningLaws.{not-memory-long}

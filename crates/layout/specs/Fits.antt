@@ -1,5 +1,4 @@
 -- What the layout has room for. The memory of the code always fits.
-use Prim.Native.Nat.{ℕ}
 use mathlib.Core.Path.{_≡_}
 use mathlib.Core.Bool.{false}
 use mathlib.Core.List.{[]}

@@ -10,7 +10,6 @@ use Rattle.label.specs.declared.Label.{Label}
 use Rattle.label.specs.Label.{label}
 use Rattle.codec.specs.Fields.{Field, number, flag, within, widths, total}
 use Rattle.model.specs.Memory.{Successor, Record, Body, request, reply, error, other, Packet, Network, zeroLabel, requestNumberAt, soughtAt, isActive, rowLimit, airLimit}
-use Rattle.network.specs.declared.RequestNumber.{RequestNumber}
 use Rattle.network.specs.declared.Packet as code
 
 abbrev pub labelFormat : List (Field Label)
@@ -155,14 +154,18 @@ packetWith sender receiver kind source serial destination l reset mask = record 
 abbrev pub bare : (sender receiver kind mask : ℕ) → code.Packet
 bare sender receiver kind mask = packetWith sender receiver kind 0 0 0 (label 0 0 0) false mask
 
-unfoldable pub plainBody : (sender receiver : ℕ) → Body → code.Packet
-plainBody a b (request R) = packetWith a b 1 (R .source) (R .number) (R .destination) (R .label) (R .reset) 0
-plainBody a b (reply v) = packetWith a b 2 (v .source) (v .number) (v .destination) (v .label) false 0
-plainBody a b (error mask) = bare a b 3 mask
-plainBody a b (other kind) = bare a b kind 0
+unfoldable pub plainBody : Packet → Body → code.Packet
+plainBody p (request R) = packetWith (p .sender) (p .receiver) 1 (R .source) (R .number) (R .destination) (R .label) (R .reset) 0
+plainBody p (reply v) = packetWith (p .sender) (p .receiver) 2 (v .source) (v .number) (v .destination) (v .label) false 0
+plainBody p (error mask) = bare (p .sender) (p .receiver) 3 mask
+plainBody p (other kind) = bare (p .sender) (p .receiver) kind 0
 
 abbrev pub plainOf : Packet → code.Packet
-plainOf p = plainBody (p .sender) (p .receiver) (p .body)
+plainOf p = plainBody p (p .body)
+
+-- The packet with another body.
+abbrev pub withBody : Packet → Body → Packet
+withBody p body = record { sender = p .sender; receiver = p .receiver; body = body }
 
 -- The other kinds are not those three.
 unfoldable pub Known : Body → Type 0

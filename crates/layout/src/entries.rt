@@ -7,7 +7,7 @@ ghost use Rattle.codec.specs.Fields.{widths, values, AllFit, Fits};
 ghost use Rattle.model.specs.Memory.{rowLimit};
 ghost use Rattle.rows.specs.View.{successor, rowOf};
 ghost use Rattle.network.specs.View.{recordOf};
-ghost use Rattle.layout.specs.Formats.{labelFormat, labelFrom, labelWide, successorFormat, successorFrom, successorWide, zeroSuccessor, rowWide, recordFormat, recordFrom, recordWide, stationFormat, stationFrom, stationWide, linkFormat, linkFrom, linkWide};
+ghost use Rattle.layout.specs.Formats.{labelFormat, labelFrom, labelWide, successorFormat, successorFrom, successorWide, zeroSuccessor, rowWide, recordFormat, recordFrom, recordWide, stationFormat, stationFrom, stationWide, linkWide};
 ghost use Rattle.layout.specs.Stored.{storedLabel, storedSuccessor, storedRow, storedRecord, storedStation, storedLink};
 ghost use Rattle.layout.specs.Written.{labelBytes, successorBytes, rowBytes, recordBytes, stationBytes, linkBytes};
 ghost use Rattle.layout.specs.Fits.{RowFits};

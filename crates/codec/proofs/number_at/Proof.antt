@@ -1,5 +1,4 @@
 -- `number_at` meets its contract, by the width.
-use mathlib.Core.Path.{_∙_}
 use native.Mathlib.Omega.{arith}
 use borrow.Author.Needs.{needs}
 use Rattle.codec.proofs.ByteLaws.{width-eight}

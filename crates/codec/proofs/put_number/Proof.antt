@@ -1,6 +1,4 @@
 -- `put_number` meets its contract, by the width.
-use Prim.Native.Nat.{_+_}
-use mathlib.Core.Path.{_≡_, _∙_}
 use native.Mathlib.Omega.{arith}
 use borrow.Author.Needs.{needs}
 use Rattle.codec.proofs.ByteLaws.{width-eight}

@@ -1,6 +1,5 @@
 -- `showing::part_wide` meets its contract, by the part.
 use native.Mathlib.Omega.{arith}
-use mathlib.Core.Path.{refl}
 use borrow.Author.Tests.{ne-eqb}
 use Rattle.console.specs.Parts.{partWide}
 use Rattle.console.proofs.showing.part_wide.Statement.{statement}

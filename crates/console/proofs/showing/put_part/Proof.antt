@@ -2,11 +2,10 @@
 use Prim.Native.Nat.{_<_}
 use mathlib.Core.Path.{_≡_, sym, ap, _∙_}
 use mathlib.Core.Logic.{_⊎_, inl, inr}
-use mathlib.Core.List.{List}
 use lib.Seq.{sets}
 use native.Mathlib.Omega.{arith}
 use borrow.Author.Needs.{needs}
-use Rattle.model.specs.Memory.{Row, Record, Packet, airLimit}
+use Rattle.model.specs.Memory.{Row, Record, airLimit}
 use Rattle.label.specs.declared.Label.{Label}
 use Rattle.network.specs.View.{packetOf}
 use Rattle.layout.specs.Formats.{Station}

@@ -1,6 +1,5 @@
 -- `entries::read_link` meets its contract: the value at the place, and whether it says yes.
-use mathlib.Core.Path.{refl, ap}
-use native.Mathlib.Omega.{arith}
+use mathlib.Core.Path.{ap}
 use Rattle.layout.specs.Formats.{linkFrom}
 use borrow.Author.Needs.{needs}
 use Rattle.layout.proofs.entries.read_link.Statement.{statement}

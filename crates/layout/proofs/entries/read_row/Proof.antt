@@ -1,12 +1,12 @@
 -- `entries::read_row` meets its contract: the labels and stations of the first k entries are read.
-use Prim.Native.Nat.{ℕ, _+_, _-_, _*_, _≤_}
-use mathlib.Core.Path.{_≡_, refl, ap, _∙_}
+use Prim.Native.Nat.{_+_, _-_, _*_, _≤_}
+use mathlib.Core.Path.{refl, ap}
 use native.Mathlib.Omega.{arith}
 use borrow.Author.Needs.{needs}
 use Rattle.base.proofs.Loops.{Filled, filled-none, filled-more, filled-all}
 use Rattle.model.specs.Memory.{Successor, rowLimit}
 use Rattle.layout.specs.Formats.{successorWide}
-use Rattle.layout.specs.Stored.{storedSuccessor, storedRow}
+use Rattle.layout.specs.Stored.{storedSuccessor}
 use Rattle.layout.proofs.EntryLaws.{row-stored}
 use Rattle.layout.proofs.entries.read_row.Statement.{statement}
 use Rattle.layout.proofs.entries.read_row.Tie as tie

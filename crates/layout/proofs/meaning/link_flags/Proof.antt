@@ -1,8 +1,7 @@
 -- `meaning::link_flags` meets its contract: the link's values at the place, and its flag among them.
-use mathlib.Core.Path.{refl, ap}
+use mathlib.Core.Path.{ap}
 use mathlib.Core.List.{List}
 use Prim.Native.Nat.{ℕ}
-use native.Mathlib.Omega.{arith}
 use Rattle.codec.specs.Fields.{flagsFrom}
 use Rattle.layout.specs.Formats.{linkFormat}
 use borrow.Author.Needs.{needs}

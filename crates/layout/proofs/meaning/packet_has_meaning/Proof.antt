@@ -1,6 +1,5 @@
 -- `meaning::packet_has_meaning` meets its contract: the values at the place, and the packet with them.
-use mathlib.Core.Path.{refl, _∙_}
-use native.Mathlib.Omega.{arith}
+use mathlib.Core.Path.{_∙_}
 use Rattle.layout.specs.Meaning.{packetHasMeaning}
 use borrow.Author.Needs.{needs}
 use Rattle.layout.proofs.meaning.packet_has_meaning.Statement.{statement}

@@ -1,7 +1,5 @@
 -- `memory::load` meets its contract: memory of no stations, or what the bytes read as.
-use mathlib.Core.Path.{_≡_, _∙_}
-use mathlib.Core.Bool.{true, false}
-use native.Mathlib.Omega.{arith}
+use mathlib.Core.Path.{_∙_}
 use borrow.Author.Needs.{needs}
 use Rattle.base.proofs.Booleans.{was-true, was-false}
 use Rattle.layout.specs.Meaning.{storedNetwork}
