@@ -143,7 +143,7 @@ enum srp_event_kind {
 #define SRP_PACKET_BYTES 28
 #define SRP_PREVIEW_BYTES 87
 
-/* What a station keeps of its own searches: where its fields stand from its first byte on. */
+/* What a station keeps of its own requests: where its fields stand from its first byte on. */
 #define SRP_STATION_NUMBER 0 /* the last request number, 4 bytes */
 #define SRP_STATION_SOUGHT 4 /* the destination last sought */
 #define SRP_STATION_ACTIVE 5 /* a flag: the station is active */
@@ -381,7 +381,7 @@ uint64_t srp_row(const uint8_t *memory, size_t length, size_t i, size_t t, uint8
 uint64_t srp_record(const uint8_t *memory, size_t length, size_t i, size_t source, uint8_t *out, size_t out_length);
 
 /*
- * What station i keeps of its own searches, SRP_STATION_BYTES.
+ * What station i keeps of its own requests, SRP_STATION_BYTES.
  * Refused: 1 (memory), 2 if i is not below n, 12.
  */
 uint64_t srp_station(const uint8_t *memory, size_t length, size_t i, uint8_t *out, size_t out_length);

@@ -14,7 +14,7 @@ pub const REQUEST: u8 = 1;
 pub const REPLY: u8 = 2;
 pub const ERROR: u8 = 3;
 
-/// What a station keeps of its own searches.
+/// What a station keeps of its own requests.
 #[repr(C, packed)]
 #[derive(Clone, Copy, PartialEq, Eq, Debug)]
 pub struct Station {
