@@ -14,11 +14,16 @@
  * All else is tested: every number and every content of the bytes may be handed in.
  *
  * RESULTS. Every function returns 64 bits. SRP_ANSWER is the low half: 0, a refusal number (1 to 99,
- * of which 1 to 12 are in use) or an outcome number (101 to 133). SRP_COUNT is the high half: what the
+ * of which 1 to 13 are in use) or an outcome number (101 to 133). SRP_COUNT is the high half: what the
  * function's comment says, and 0 where the call is turned down. A function that counts two things has
  * its answer in the lowest 16 bits, SRP_SHORT_ANSWER, and then SRP_FIRST_COUNT and SRP_SECOND_COUNT of
  * 24 bits each; turned down, it too returns the refusal number alone. srp_new_label and
  * srp_script_start have results of their own.
+ *
+ * SERIALS. Each station numbers its sendings, from 1 on: a reply has the next number, and so has a
+ * broadcast, one for all its copies; a broadcast to no up neighbour has none. A serial is such a number.
+ * A station keeps its last one, a packet carries that of its sending, and an entry of a row keeps that
+ * of the reply that made it.
  *
  * STACK. A call uses the caller's stack and allocates nothing. Up to 165,576 bytes were measured
  * (docs/LAYOUT.md, "Stack"); the library's tests fail where a call needs over 262,144.
@@ -32,6 +37,7 @@
  *     in them is out of range (docs/LAYOUT.md, "What is turned down").
  *   2: a station is not below n, or the two are equal.
  *   7: over 128 packets would be in the air after the call.
+ *   13 (a station): it would send a packet, and its last serial is 18,446,744,073,709,551,615.
  *
  * ACCEPTED CALLS, from srp_open to srp_drain, leave in the first SRP_LENGTH bytes of memory those
  * of the network after the step that 01 writes. Places past a count are zeros; what tables hold for
@@ -79,6 +85,7 @@ enum srp_answer {
     SRP_SCRIPT_SIZE = 10,            /* over 4,096 events, or lengths that do not fit their number */
     SRP_NO_EVENT = 11,               /* a kind not 1 to 9, or an unused operand not 0 */
     SRP_NO_ROOM = 12,                /* a lent output slice is too short */
+    SRP_SERIALS_USED_UP = 13,        /* a station that would send has the last serial 2^64 - 1 */
 
     SRP_REQUEST_KNOWN = 101,         /* a request: own or known here, nothing done */
     SRP_REQUEST_ANSWERED = 102,      /* a request: a reply was sent */
@@ -122,31 +129,32 @@ enum srp_event_kind {
 #define SRP_MAX_TURNS 69136 /* of srp_drain */
 
 /* The memory: its length, where each part begins, and how many bytes an entry has. */
-#define SRP_LENGTH 31587
-#define SRP_VERSION 17 /* the number that byte 0 of the memory has; with another the bytes have no meaning */
+#define SRP_LENGTH 40931
+#define SRP_VERSION 18 /* the number that byte 0 of the memory has; with another the bytes have no meaning */
 
 #define SRP_VERSION_AT 0     /* SRP_VERSION, 1 byte */
 #define SRP_N_AT 1           /* n, 1 byte */
 #define SRP_STATIONS_AT 2    /* 16 entries: what each station keeps */
-#define SRP_LINKS_AT 98      /* 256 flags: the link is up */
-#define SRP_LABELS_AT 354    /* 256 labels */
-#define SRP_ROWS_AT 4450     /* 256 rows */
-#define SRP_RECORDS_AT 22114 /* 256 records */
-#define SRP_AIR_AT 28002     /* the number of packets in the air, 1 byte */
-#define SRP_PACKETS_AT 28003 /* 128 packets */
+#define SRP_LINKS_AT 226     /* 256 flags: the link is up */
+#define SRP_LABELS_AT 482    /* 256 labels */
+#define SRP_ROWS_AT 4578     /* 256 rows */
+#define SRP_RECORDS_AT 30434 /* 256 records */
+#define SRP_AIR_AT 36322     /* the number of packets in the air, 1 byte */
+#define SRP_PACKETS_AT 36323 /* 128 packets */
 
-#define SRP_STATION_BYTES 6
+#define SRP_STATION_BYTES 14
 #define SRP_LABEL_BYTES 16
-#define SRP_ENTRY_BYTES 17
-#define SRP_ROW_BYTES 69
+#define SRP_ENTRY_BYTES 25
+#define SRP_ROW_BYTES 101
 #define SRP_RECORD_BYTES 23
-#define SRP_PACKET_BYTES 28
-#define SRP_PREVIEW_BYTES 87
+#define SRP_PACKET_BYTES 36
+#define SRP_PREVIEW_BYTES 119
 
-/* What a station keeps of its own requests: where its fields stand from its first byte on. */
+/* What a station keeps of its own requests and sendings: where its fields stand from its first byte on. */
 #define SRP_STATION_NUMBER 0 /* the last request number, 4 bytes */
 #define SRP_STATION_SOUGHT 4 /* the destination last sought */
 #define SRP_STATION_ACTIVE 5 /* a flag: the station is active */
+#define SRP_STATION_SERIAL 6 /* the last serial, 8 bytes; 0 before its first sending */
 
 /* A label. */
 #define SRP_LABEL_S 0 /* 8 bytes */
@@ -159,7 +167,8 @@ enum srp_event_kind {
 
 /* An entry of a row. */
 #define SRP_ENTRY_STATION 0
-#define SRP_ENTRY_LABEL 1 /* the label that the station advertised */
+#define SRP_ENTRY_LABEL 1   /* the label that the station advertised */
+#define SRP_ENTRY_SERIAL 17 /* the serial of the reply that made the entry, 8 bytes */
 
 /* A record. */
 #define SRP_RECORD_NUMBER 0 /* 4 bytes; 0: none */
@@ -178,11 +187,12 @@ enum srp_event_kind {
 #define SRP_PACKET_LABEL 9       /* request, reply; else zeros */
 #define SRP_PACKET_RESET 25      /* request, a flag; else 0 */
 #define SRP_PACKET_MASK 26       /* error; else 0; 2 bytes, weight 2^t for destination t */
+#define SRP_PACKET_SERIAL 28     /* the serial of its sending, 8 bytes */
 
 /* What srp_preview shows. */
-#define SRP_PREVIEW_LABEL 0 /* a label */
-#define SRP_PREVIEW_ROW 16  /* a row */
-#define SRP_PREVIEW_MASK 85 /* 2 bytes, weight 2^t for destination t */
+#define SRP_PREVIEW_LABEL 0  /* a label */
+#define SRP_PREVIEW_ROW 16   /* a row */
+#define SRP_PREVIEW_MASK 117 /* 2 bytes, weight 2^t for destination t */
 
 /* Where the part of station i, of station i for station t, and of packet k stands. */
 #define SRP_PLACE(i, t) (SRP_MAX_STATIONS * (size_t)(i) + (size_t)(t))
@@ -223,14 +233,14 @@ uint64_t srp_up(uint8_t *memory, size_t length, size_t a, size_t b);
 
 /*
  * Down: the link of a and b is down, the packets between them are dropped, each leaves the other's
- * rows; then a, then b, broadcasts an error for its rows that this emptied.
- * Refused: 1 (memory), 2, 3 if it is down, 7. Answer 0; count: the errors sent.
+ * rows, whatever the entry's serial; then a, then b, broadcasts an error for its rows that this emptied.
+ * Refused: 1 (memory), 2, 3 if it is down, 13 (a or b), 7. Answer 0; count: the errors sent.
  */
 uint64_t srp_down(uint8_t *memory, size_t length, size_t a, size_t b);
 
 /*
- * Solicit: a seeks a route to t. It is active, and broadcasts a request with its next number.
- * Refused: 1 (memory), 2, 4 if a is active, 8 if its last request number is 4,294,967,295, 7.
+ * Solicit: a seeks a route to t. It is active, and broadcasts a request with its next request number.
+ * Refused: 1 (memory), 2, 4 if a is active, 8 if its last request number is 4,294,967,295, 13 (a), 7.
  * Answer 0; count: the requests sent.
  */
 uint64_t srp_solicit(uint8_t *memory, size_t length, size_t a, size_t t);
@@ -245,8 +255,9 @@ uint64_t srp_give_up(uint8_t *memory, size_t length, size_t a);
 uint64_t srp_expire(uint8_t *memory, size_t length, size_t a, size_t t);
 
 /*
- * Deliver: packet k, from 0, leaves the air and its receiver acts.
- * Refused: 1 (memory), 6 if k is not below the packets in the air, 7.
+ * Deliver: packet k, from 0, leaves the air and its receiver acts. An error takes its sender out of a
+ * row only where its serial is not lower than the entry's: one that was sent before the reply is too late.
+ * Refused: 1 (memory), 6 if k is not below the packets in the air, 13 (the receiver), 7.
  * Answer: 101 to 104 for a request, 111 to 115 for a reply, 121 to 123 for an error; count: the
  * packets sent.
  */
@@ -257,7 +268,7 @@ uint64_t srp_lose(uint8_t *memory, size_t length, size_t k);
 
 /*
  * Duplicate: a copy of packet k is last in the air. Refused: 1 (memory), 6, 7. Answer 0, count 0:
- * the copy does not count as sent.
+ * the copy does not count as sent, and has the packet's serial.
  */
 uint64_t srp_duplicate(uint8_t *memory, size_t length, size_t k);
 
@@ -266,7 +277,7 @@ uint64_t srp_duplicate(uint8_t *memory, size_t length, size_t k);
 #define SRP_LOSSES(r) SRP_SECOND_COUNT(r)
 
 /*
- * Drain: until the air is empty, packet 0 is delivered, or lost where srp_deliver would give 7: memory
+ * Drain: until the air is empty, packet 0 is delivered, or lost where srp_deliver would give 13 or 7: memory
  * is left as by these single calls. Refused: 1 (memory). Answer 0; two counts: the packets delivered
  * and the packets lost. With p packets in the air before, the two together are at most
  * p + p n (n - 1) + p n + (n - 1) (n (n - 1) + p + p n), which is SRP_MAX_TURNS for 16 stations and
@@ -381,7 +392,7 @@ uint64_t srp_row(const uint8_t *memory, size_t length, size_t i, size_t t, uint8
 uint64_t srp_record(const uint8_t *memory, size_t length, size_t i, size_t source, uint8_t *out, size_t out_length);
 
 /*
- * What station i keeps of its own requests, SRP_STATION_BYTES.
+ * What station i keeps of its own requests and sendings, SRP_STATION_BYTES.
  * Refused: 1 (memory), 2 if i is not below n, 12.
  */
 uint64_t srp_station(const uint8_t *memory, size_t length, size_t i, uint8_t *out, size_t out_length);

@@ -1,6 +1,6 @@
 /*
- * A client in C of the entry points in include/srp.h. It holds them to 01 and to docs/LAYOUT.md: 01's example, the search of a row,
- * previews, New label, scripts, refusals, memory of another version or damaged, and the places that are free.
+ * A client in C of the entry points in include/srp.h. It holds them to 01, 02 and docs/LAYOUT.md: 01's example, the search of a row,
+ * previews, New label, scripts, refusals, serials, memory of another version or damaged, and the places that are free.
  *
  *     client [STEP]     damages every STEP-th byte of the memory in turn; 1 if not given
  *
@@ -166,7 +166,7 @@ static uint64_t make(struct call c, uint8_t *memory, size_t length, uint8_t *out
 /* A network in a slice that is longer than the layout, an output slice, and what both held before the last call. */
 #define GUARD 64
 #define LENT (SRP_LENGTH + GUARD)
-#define OUT 100
+#define OUT 128
 
 struct desk {
     uint8_t memory[LENT], before[LENT];
@@ -508,7 +508,7 @@ static void check_shown(struct desk *d)
 }
 
 /* A request or a reply of the example: station 2 seeks 0 with its first request. */
-#define CHECK_PACKET(d, k, sender, receiver, kind, s, m, denominator)                                                                    \
+#define CHECK_PACKET(d, k, sender, receiver, kind, s, m, denominator, serial)                                                            \
     do {                                                                                                                                 \
         CHECK_EQ(srp_packet((d)->memory, LENT, (k), (d)->out, OUT), result(SRP_DONE, SRP_PACKET_BYTES));                                 \
         CHECK_EQ((d)->out[SRP_PACKET_SENDER], (sender));                                                                                 \
@@ -520,6 +520,7 @@ static void check_shown(struct desk *d)
         CHECK_LABEL((d)->out + SRP_PACKET_LABEL, (s), (m), (denominator));                                                               \
         CHECK_EQ((d)->out[SRP_PACKET_RESET], 0);                                                                                         \
         CHECK_EQ(srp_read2((d)->out + SRP_PACKET_MASK), 0);                                                                              \
+        CHECK_EQ(srp_read8((d)->out + SRP_PACKET_SERIAL), (serial));                                                                     \
     } while (0)
 
 /* A record for source 2 of the example. */
@@ -533,16 +534,17 @@ static void check_shown(struct desk *d)
         CHECK_EQ((d)->out[SRP_RECORD_PASSED], (passed));                                                                                 \
     } while (0)
 
-#define CHECK_STATION(d, i, number, sought, active)                                                                                      \
+#define CHECK_STATION(d, i, number, sought, active, serial)                                                                              \
     do {                                                                                                                                 \
         CHECK_EQ(srp_station((d)->memory, LENT, (i), (d)->out, OUT), result(SRP_DONE, SRP_STATION_BYTES));                               \
         CHECK_EQ(srp_read4((d)->out + SRP_STATION_NUMBER), (number));                                                                    \
         CHECK_EQ((d)->out[SRP_STATION_SOUGHT], (sought));                                                                                \
         CHECK_EQ((d)->out[SRP_STATION_ACTIVE], (active));                                                                                \
+        CHECK_EQ(srp_read8((d)->out + SRP_STATION_SERIAL), (serial));                                                                    \
     } while (0)
 
-/* A station's label for 0, and its row: one successor with the label that it advertised. */
-#define CHECK_ROUTE(d, i, m, denominator, successor, advertised_m, advertised_d)                                                         \
+/* A station's label for 0, and its row: one successor with the label that it advertised and its reply's serial. */
+#define CHECK_ROUTE(d, i, m, denominator, successor, advertised_m, advertised_d, serial)                                                 \
     do {                                                                                                                                 \
         CHECK_EQ(srp_label((d)->memory, LENT, (i), 0, (d)->out, OUT), result(SRP_DONE, SRP_LABEL_BYTES));                                \
         CHECK_LABEL((d)->out, 1, (m), (denominator));                                                                                    \
@@ -550,6 +552,7 @@ static void check_shown(struct desk *d)
         CHECK_EQ((d)->out[SRP_ROW_COUNT], 1);                                                                                            \
         CHECK_EQ((d)->out[SRP_ROW_ENTRIES + SRP_ENTRY_STATION], (successor));                                                            \
         CHECK_LABEL((d)->out + SRP_ROW_ENTRIES + SRP_ENTRY_LABEL, 1, (advertised_m), (advertised_d));                                    \
+        CHECK_EQ(srp_read8((d)->out + SRP_ROW_ENTRIES + SRP_ENTRY_SERIAL), (serial));                                                    \
     } while (0)
 
 /* What the example has of links after its first two events. */
@@ -564,9 +567,11 @@ static void check_example_links(struct desk *d)
 
 static void check_example_end(struct desk *d)
 {
-    CHECK_ROUTE(d, 1, 1, 2, 0, 0, 1);
-    CHECK_ROUTE(d, 2, 2, 3, 1, 1, 2);
-    CHECK_STATION(d, 2, 1, 0, 0);
+    CHECK_ROUTE(d, 1, 1, 2, 0, 0, 1, 1);
+    CHECK_ROUTE(d, 2, 2, 3, 1, 1, 2, 2);
+    CHECK_STATION(d, 0, 0, 0, 0, 1);
+    CHECK_STATION(d, 1, 0, 0, 0, 2);
+    CHECK_STATION(d, 2, 1, 0, 0, 1);
     CHECK_EQ(srp_label(d->memory, LENT, 0, 0, d->out, OUT), result(SRP_DONE, SRP_LABEL_BYTES));
     CHECK_LABEL(d->out, 1, 0, 1);
     CHECK_EQ(srp_label(d->memory, LENT, 0, 2, d->out, OUT), result(SRP_DONE, SRP_LABEL_BYTES));
@@ -584,23 +589,23 @@ static void test_example(void)
     CHECK_EQ(srp_size(d->memory, LENT), result(SRP_DONE, 3));
     CHECK_EQ(srp_air(d->memory, LENT), result(SRP_DONE, 0));
     CHECK_EQ(srp_link(d->memory, LENT, 0, 1), result(SRP_DONE, 0));
-    CHECK_STATION(d, 2, 0, 0, 0);
+    CHECK_STATION(d, 2, 0, 0, 0, 0);
     CHECK_RECORD(d, 1, 0, 0, 0);
     play(d, example, 0, 3);
     check_example_links(d);
-    CHECK_STATION(d, 2, 1, 0, 1);
-    CHECK_PACKET(d, 0, 2, 1, SRP_REQUEST, 0, 1, 1);
+    CHECK_STATION(d, 2, 1, 0, 1, 1);
+    CHECK_PACKET(d, 0, 2, 1, SRP_REQUEST, 0, 1, 1, 1);
     play(d, example, 3, 4);
     CHECK_RECORD(d, 1, 1, 2, 0);
-    CHECK_PACKET(d, 0, 1, 0, SRP_REQUEST, 0, 1, 1);
-    CHECK_PACKET(d, 1, 1, 2, SRP_REQUEST, 0, 1, 1);
+    CHECK_PACKET(d, 0, 1, 0, SRP_REQUEST, 0, 1, 1, 1);
+    CHECK_PACKET(d, 1, 1, 2, SRP_REQUEST, 0, 1, 1, 1);
     play(d, example, 4, 5);
     CHECK_RECORD(d, 0, 1, 1, 1);
-    CHECK_PACKET(d, 0, 1, 2, SRP_REQUEST, 0, 1, 1);
-    CHECK_PACKET(d, 1, 0, 1, SRP_REPLY, 1, 0, 1);
+    CHECK_PACKET(d, 0, 1, 2, SRP_REQUEST, 0, 1, 1, 1);
+    CHECK_PACKET(d, 1, 0, 1, SRP_REPLY, 1, 0, 1, 1);
     play(d, example, 5, 7);
     CHECK_RECORD(d, 1, 1, 2, 1);
-    CHECK_PACKET(d, 0, 1, 2, SRP_REPLY, 1, 1, 2);
+    CHECK_PACKET(d, 0, 1, 2, SRP_REPLY, 1, 1, 2, 2);
     play(d, example, 7, EXAMPLE);
     check_example_end(d);
     check_shown(d);
@@ -765,7 +770,7 @@ static void test_hand_written(void)
     put_label(d->memory + SRP_PACKET_AT(0) + SRP_PACKET_LABEL, UINT64_MAX - 1, 0, 1);
     CHECK_EQ(call_on(d, (struct call){SRP_EVENT_DELIVER, 0, 0}, LENT, OUT), result(SRP_REQUEST_ANSWERED, 1));
     CHECK_LABEL(d->memory + SRP_LABEL_AT(0, 0), UINT64_MAX, 0, 1);
-    CHECK_PACKET(d, 1, 0, 1, SRP_REPLY, UINT64_MAX, 0, 1);
+    CHECK_PACKET(d, 1, 0, 1, SRP_REPLY, UINT64_MAX, 0, 1, 1);
     free(d);
     d = example_after(4);
     d->memory[SRP_PACKET_AT(0) + SRP_PACKET_RESET] = 1;
@@ -1442,7 +1447,7 @@ static uint64_t drain_singly(uint8_t *memory)
     while (memory[SRP_AIR_AT] > 0 && deliveries + losses <= SRP_MAX_TURNS) {
         uint64_t r = srp_deliver(memory, LENT, 0);
 
-        if (r == SRP_AIR_FULL) {
+        if (r == SRP_AIR_FULL || r == SRP_SERIALS_USED_UP) {
             CHECK_EQ(srp_lose(memory, LENT, 0), SRP_DONE);
             losses++;
         } else {
@@ -1559,7 +1564,7 @@ static void test_numbers_used_up(void)
     CHECK_EQ(call_on(d, (struct call){SRP_EVENT_LOSE, 0, 0}, LENT, OUT), SRP_DONE);
     put(d->memory + SRP_STATION_AT(0) + SRP_STATION_NUMBER, 4, UINT32_MAX - 1);
     CHECK_EQ(call_on(d, (struct call){SRP_EVENT_SOLICIT, 0, 2}, LENT, OUT), result(SRP_DONE, 1));
-    CHECK_STATION(d, 0, UINT32_MAX, 2, 1);
+    CHECK_STATION(d, 0, UINT32_MAX, 2, 1, 1);
     CHECK_EQ(srp_read4(d->memory + SRP_PACKET_AT(SRP_MAX_PACKETS - 1) + SRP_PACKET_NUMBER), UINT32_MAX);
     free(d);
 }
@@ -1639,6 +1644,633 @@ static void test_open_refused(void)
     free(d);
 }
 
+/* ---- Serials -------------------------------------------------------------------------------- */
+
+static uint8_t *entry_at(struct desk *d, unsigned i, unsigned t, unsigned e)
+{
+    return d->memory + SRP_ROW_AT(i, t) + SRP_ROW_ENTRIES + SRP_ENTRY_BYTES * e;
+}
+
+static uint64_t last_serial(const struct desk *d, unsigned i)
+{
+    return srp_read8(d->memory + SRP_STATION_AT(i) + SRP_STATION_SERIAL);
+}
+
+static uint64_t packet_serial(const struct desk *d, unsigned k)
+{
+    return srp_read8(d->memory + SRP_PACKET_AT(k) + SRP_PACKET_SERIAL);
+}
+
+static uint64_t entry_serial(struct desk *d, unsigned i, unsigned t, unsigned e)
+{
+    return srp_read8(entry_at(d, i, t, e) + SRP_ENTRY_SERIAL);
+}
+
+static void put_last_serial(struct desk *d, unsigned i, uint64_t serial)
+{
+    put(d->memory + SRP_STATION_AT(i) + SRP_STATION_SERIAL, 8, serial);
+}
+
+static void put_packet_serial(struct desk *d, unsigned k, uint64_t serial)
+{
+    put(d->memory + SRP_PACKET_AT(k) + SRP_PACKET_SERIAL, 8, serial);
+}
+
+static void put_entry_serial(struct desk *d, unsigned i, unsigned t, unsigned e, uint64_t serial)
+{
+    put(entry_at(d, i, t, e) + SRP_ENTRY_SERIAL, 8, serial);
+}
+
+/* The only packet in the air: an error. */
+static void put_error(struct desk *d, unsigned sender, unsigned receiver, unsigned mask, uint64_t serial)
+{
+    uint8_t *packet = d->memory + SRP_PACKET_AT(0);
+
+    memset(packet, 0, SRP_PACKET_BYTES * SRP_MAX_PACKETS);
+    d->memory[SRP_AIR_AT] = 1;
+    packet[SRP_PACKET_SENDER] = (uint8_t)sender;
+    packet[SRP_PACKET_RECEIVER] = (uint8_t)receiver;
+    packet[SRP_PACKET_KIND] = SRP_ERROR;
+    put(packet + SRP_PACKET_MASK, 2, mask);
+    put(packet + SRP_PACKET_SERIAL, 8, serial);
+}
+
+/* A call that is accepted with this result and leaves memory in range with nothing in its free places. */
+static void check_done(int line, struct desk *d, struct call c, uint64_t wanted)
+{
+    check_eq(line, "the result", call_on(d, c, LENT, OUT), wanted);
+    check_left(line, d);
+}
+
+#define CHECK_DONE(d, answer, count, ...) check_done(__LINE__, (d), (struct call){__VA_ARGS__}, result((answer), (count)))
+
+/* 01's example where each station has sent before. Every sending takes its sender's next serial, and nothing else takes one. */
+static void test_serials(void)
+{
+    const uint64_t first[3] = {0x1122334455667788u, 0xfedcba98u, UINT64_MAX - 1};
+    struct desk *d = opened(3, 1);
+
+    for (unsigned i = 0; i < 3; i++)
+        put_last_serial(d, i, first[i]);
+    play(d, example, 0, 2);
+    CHECK_EQ(last_serial(d, 1), first[1]);
+    play(d, example, 2, 3);
+    CHECK_EQ(last_serial(d, 2), UINT64_MAX);
+    CHECK_EQ(packet_serial(d, 0), UINT64_MAX);
+    /* A broadcast: one serial for both copies. */
+    play(d, example, 3, 4);
+    CHECK_EQ(last_serial(d, 1), first[1] + 1);
+    CHECK_EQ(packet_serial(d, 0), first[1] + 1);
+    CHECK_EQ(packet_serial(d, 1), first[1] + 1);
+    play(d, example, 4, 6);
+    CHECK_EQ(last_serial(d, 0), first[0] + 1);
+    CHECK_EQ(packet_serial(d, 0), first[0] + 1);
+    /* The entry has the serial of the reply that came, the reply that is passed on the next one of its sender. */
+    play(d, example, 6, 7);
+    CHECK_EQ(entry_serial(d, 1, 0, 0), first[0] + 1);
+    CHECK_EQ(last_serial(d, 1), first[1] + 2);
+    CHECK_EQ(packet_serial(d, 0), first[1] + 2);
+    play(d, example, 7, EXAMPLE);
+    CHECK_EQ(entry_serial(d, 2, 0, 0), first[1] + 2);
+    CHECK_DONE(d, 0, 0, SRP_EVENT_UP, 0, 2);
+    CHECK_DONE(d, 0, 0, SRP_EVENT_EXPIRE, 2, 0);
+    CHECK_EQ(last_serial(d, 0), first[0] + 1);
+    CHECK_EQ(last_serial(d, 1), first[1] + 2);
+    CHECK_EQ(last_serial(d, 2), UINT64_MAX);
+    free(d);
+}
+
+/* Four stations in a line: 0 has a route to 3 over the others, and 3 one to 0. */
+static struct desk *line_of_four(void)
+{
+    static const struct step steps[] = {
+        {{SRP_EVENT_UP, 0, 1}, 0, 0, 0},        {{SRP_EVENT_UP, 1, 2}, 0, 0, 0},        {{SRP_EVENT_UP, 2, 3}, 0, 0, 0},
+        {{SRP_EVENT_SOLICIT, 0, 3}, 0, 1, 1},   {{SRP_EVENT_DELIVER, 0, 0}, 103, 2, 2}, {{SRP_EVENT_LOSE, 0, 0}, 0, 0, 1},
+        {{SRP_EVENT_DELIVER, 0, 0}, 103, 2, 2}, {{SRP_EVENT_LOSE, 0, 0}, 0, 0, 1},      {{SRP_EVENT_DELIVER, 0, 0}, 102, 1, 1},
+        {{SRP_EVENT_DELIVER, 0, 0}, 115, 1, 1}, {{SRP_EVENT_DELIVER, 0, 0}, 115, 1, 1}, {{SRP_EVENT_DELIVER, 0, 0}, 115, 0, 0},
+        {{SRP_EVENT_SOLICIT, 3, 0}, 0, 1, 1},   {{SRP_EVENT_DELIVER, 0, 0}, 103, 2, 2}, {{SRP_EVENT_LOSE, 1, 0}, 0, 0, 1},
+        {{SRP_EVENT_DELIVER, 0, 0}, 103, 2, 2}, {{SRP_EVENT_LOSE, 1, 0}, 0, 0, 1},      {{SRP_EVENT_DELIVER, 0, 0}, 102, 1, 1},
+        {{SRP_EVENT_DELIVER, 0, 0}, 115, 1, 1}, {{SRP_EVENT_DELIVER, 0, 0}, 115, 1, 1}, {{SRP_EVENT_DELIVER, 0, 0}, 115, 0, 0},
+    };
+    struct desk *d = opened(4, 1);
+
+    play(d, steps, 0, sizeof steps / sizeof *steps);
+    CHECK_EQ(last_serial(d, 0), 2);
+    CHECK_EQ(last_serial(d, 1), 4);
+    CHECK_EQ(last_serial(d, 2), 4);
+    CHECK_EQ(last_serial(d, 3), 2);
+    return d;
+}
+
+/* Down of 1 and 2: 1 tells 0, 2 tells 3, each with its next serial. The entries leave whatever their serials. */
+static void check_down(unsigned a, unsigned b)
+{
+    struct desk *d = line_of_four();
+    unsigned first = a == 1 ? 0 : 1;
+
+    put_entry_serial(d, 1, 3, 0, UINT64_MAX);
+    put_last_serial(d, 1, 70);
+    put_last_serial(d, 2, 80);
+    CHECK_DONE(d, 0, 2, SRP_EVENT_DOWN, a, b);
+    CHECK_EQ(d->memory[SRP_ROW_AT(1, 3) + SRP_ROW_COUNT], 0);
+    CHECK_EQ(d->memory[SRP_PACKET_AT(first) + SRP_PACKET_SENDER], 1);
+    CHECK_EQ(packet_serial(d, first), 71);
+    CHECK_EQ(packet_serial(d, 1 - first), 81);
+    CHECK_EQ(last_serial(d, 1), 71);
+    CHECK_EQ(last_serial(d, 2), 81);
+    free(d);
+}
+
+/* 13 by a, by b and by both, before 7 and after 3. The last serial of another station is not asked. */
+static void check_down_used_up(unsigned a, unsigned b)
+{
+    struct desk *d = line_of_four();
+
+    put_last_serial(d, 0, UINT64_MAX);
+    put_last_serial(d, 3, UINT64_MAX);
+    put_last_serial(d, 1, UINT64_MAX);
+    CHECK_REFUSED(d, SRP_SERIALS_USED_UP, SRP_EVENT_DOWN, a, b);
+    put_last_serial(d, 2, UINT64_MAX);
+    CHECK_REFUSED(d, SRP_SERIALS_USED_UP, SRP_EVENT_DOWN, a, b);
+    put_last_serial(d, 1, UINT64_MAX - 1);
+    CHECK_REFUSED(d, SRP_SERIALS_USED_UP, SRP_EVENT_DOWN, a, b);
+    d->memory[SRP_LINK_AT(1, 2)] = 0;
+    CHECK_REFUSED(d, SRP_LINK_ALREADY, SRP_EVENT_DOWN, a, b);
+    d->memory[SRP_LINK_AT(1, 2)] = 1;
+    put_error(d, 0, 1, 0, 0);
+    fill_air(d, SRP_MAX_PACKETS);
+    CHECK_REFUSED(d, SRP_SERIALS_USED_UP, SRP_EVENT_DOWN, a, b);
+    put_last_serial(d, 2, UINT64_MAX - 1);
+    CHECK_REFUSED(d, SRP_AIR_FULL, SRP_EVENT_DOWN, a, b);
+    CHECK_DONE(d, 0, 0, SRP_EVENT_LOSE, 0, 0);
+    CHECK_DONE(d, 0, 0, SRP_EVENT_LOSE, 0, 0);
+    CHECK_DONE(d, 0, 2, SRP_EVENT_DOWN, a, b);
+    CHECK_EQ(last_serial(d, 1), UINT64_MAX);
+    CHECK_EQ(last_serial(d, 2), UINT64_MAX);
+    free(d);
+}
+
+static void test_serials_of_down(void)
+{
+    struct desk *d = line_of_four();
+
+    check_down(1, 2);
+    check_down(2, 1);
+    check_down_used_up(1, 2);
+    check_down_used_up(2, 1);
+
+    /* Where no row is emptied nobody sends. */
+    for (unsigned i = 0; i < 4; i++)
+        put_last_serial(d, i, UINT64_MAX);
+    CHECK_DONE(d, 0, 0, SRP_EVENT_EXPIRE, 1, 3);
+    CHECK_DONE(d, 0, 0, SRP_EVENT_EXPIRE, 2, 0);
+    CHECK_DONE(d, 0, 0, SRP_EVENT_DOWN, 1, 2);
+    CHECK_EQ(last_serial(d, 1), UINT64_MAX);
+    CHECK_EQ(last_serial(d, 2), UINT64_MAX);
+    free(d);
+}
+
+/* An end of the line goes: it has no other neighbour and sends nothing. 2 tells 1, and 1 tells 0 and 2, with one serial. */
+static void test_serials_of_errors(void)
+{
+    struct desk *d = line_of_four();
+
+    put_last_serial(d, 3, UINT64_MAX);
+    CHECK_DONE(d, 0, 1, SRP_EVENT_DOWN, 3, 2);
+    CHECK_EQ(last_serial(d, 3), UINT64_MAX);
+    CHECK_EQ(packet_serial(d, 0), 5);
+    put_last_serial(d, 1, 9);
+    CHECK_DONE(d, SRP_ERROR_EMPTIED, 2, SRP_EVENT_DELIVER, 0, 0);
+    CHECK_EQ(last_serial(d, 1), 10);
+    CHECK_EQ(packet_serial(d, 0), 10);
+    CHECK_EQ(packet_serial(d, 1), 10);
+    free(d);
+}
+
+/* A broadcast to no up neighbour takes no serial, and so there may be none left. */
+static void test_serials_of_nobody(void)
+{
+    for (unsigned used_up = 0; used_up < 2; used_up++) {
+        uint64_t serial = used_up ? UINT64_MAX : 5;
+        struct desk *d = opened(3, 1);
+
+        put_last_serial(d, 0, serial);
+        CHECK_DONE(d, 0, 0, SRP_EVENT_SOLICIT, 0, 1);
+        CHECK_STATION(d, 0, 1, 1, 1, serial);
+        free(d);
+
+        /* A request sent on. */
+        d = example_after(3);
+        d->memory[SRP_LINK_AT(0, 1)] = 0;
+        d->memory[SRP_LINK_AT(1, 2)] = 0;
+        put_last_serial(d, 1, serial);
+        CHECK_DONE(d, SRP_REQUEST_SENT_ON, 0, SRP_EVENT_DELIVER, 0, 0);
+        CHECK_EQ(last_serial(d, 1), serial);
+        free(d);
+
+        /* An error that empties a row, and the error of Down. */
+        d = example_after(EXAMPLE);
+        d->memory[SRP_LINK_AT(1, 2)] = 0;
+        put_error(d, 1, 2, 1, 2);
+        put_last_serial(d, 2, serial);
+        CHECK_DONE(d, SRP_ERROR_EMPTIED, 0, SRP_EVENT_DELIVER, 0, 0);
+        CHECK_EQ(last_serial(d, 2), serial);
+        put_last_serial(d, 1, serial);
+        CHECK_DONE(d, 0, 0, SRP_EVENT_DOWN, 1, 0);
+        CHECK_EQ(last_serial(d, 1), serial);
+        CHECK_EQ(d->memory[SRP_ROW_AT(1, 0) + SRP_ROW_COUNT], 0);
+        free(d);
+    }
+}
+
+/* A copy has the packet's serial, and its sender's last one stays, also where it is the last that there is. */
+static void test_serials_of_copies(void)
+{
+    struct desk *d = example_after(3);
+
+    put_packet_serial(d, 0, 0xa1a2a3a4a5a6a7a8u);
+    put_last_serial(d, 2, UINT64_MAX);
+    put_last_serial(d, 1, UINT64_MAX);
+    CHECK_DONE(d, 0, 0, SRP_EVENT_DUPLICATE, 0, 0);
+    CHECK_EQ(packet_serial(d, 1), 0xa1a2a3a4a5a6a7a8u);
+    CHECK_EQ(last_serial(d, 1), UINT64_MAX);
+    CHECK_EQ(last_serial(d, 2), UINT64_MAX);
+    check_shown(d);
+    CHECK_DONE(d, 0, 0, SRP_EVENT_LOSE, 0, 0);
+    CHECK_EQ(packet_serial(d, 0), 0xa1a2a3a4a5a6a7a8u);
+    free(d);
+}
+
+/* Station 3's row for 0 in the square has 1 and then 2. An error from 1 removes it where its serial is not lower than the entry's. */
+static void check_error(uint64_t kept, uint64_t serial)
+{
+    bool removed = serial >= kept;
+    struct desk *d = square_after(17);
+
+    put_error(d, 1, 3, 1, serial);
+    put_entry_serial(d, 3, 0, 0, kept);
+    put_entry_serial(d, 3, 0, 1, 44);
+    put_last_serial(d, 3, UINT64_MAX);
+    check_preview(d, 0, OUT);
+    CHECK_DONE(d, removed ? SRP_ERROR_NONE_EMPTIED : SRP_ERROR_NONE_REMOVED, 0, SRP_EVENT_DELIVER, 0, 0);
+    CHECK_EQ(d->memory[SRP_ROW_AT(3, 0) + SRP_ROW_COUNT], removed ? 1 : 2);
+    CHECK_EQ(entry_at(d, 3, 0, 0)[SRP_ENTRY_STATION], removed ? 2 : 1);
+    CHECK_EQ(entry_serial(d, 3, 0, 0), removed ? 44 : kept);
+    CHECK_EQ(entry_serial(d, 3, 0, 1), removed ? 0 : 44);
+
+    /* As the only successor: then the row is emptied, and 3 tells 1 and 2. */
+    d->memory[SRP_ROW_AT(3, 0) + SRP_ROW_COUNT] = 1;
+    entry_at(d, 3, 0, 0)[SRP_ENTRY_STATION] = 1;
+    put_entry_serial(d, 3, 0, 0, kept);
+    put_error(d, 1, 3, 1, serial);
+    check_preview(d, 0, OUT);
+    if (removed)
+        CHECK_REFUSED(d, SRP_SERIALS_USED_UP, SRP_EVENT_DELIVER, 0, 0);
+    put_last_serial(d, 3, 0);
+    check_preview(d, 0, OUT);
+    CHECK_DONE(d, removed ? SRP_ERROR_EMPTIED : SRP_ERROR_NONE_REMOVED, removed ? 2 : 0, SRP_EVENT_DELIVER, 0, 0);
+    CHECK_EQ(d->memory[SRP_ROW_AT(3, 0) + SRP_ROW_COUNT], removed ? 0 : 1);
+    CHECK_EQ(entry_serial(d, 3, 0, 0), removed ? 0 : kept);
+    CHECK_EQ(last_serial(d, 3), removed);
+    free(d);
+}
+
+static void test_late_errors(void)
+{
+    /* Equal, next to each other, and apart in one byte or half alone. */
+    static const uint64_t serials[] = {
+        0, 1, 2, 255, 256, 0x7fffffff, 0x80000000u, 0xffffffffu, 0x100000000u, 0x100000001u, 0x200000000u, 0x7fffffffffffffffu,
+        0x8000000000000000u, UINT64_MAX - 1, UINT64_MAX,
+    };
+    const size_t count = sizeof serials / sizeof *serials;
+
+    for (size_t i = 0; i < count; i++)
+        for (size_t k = 0; k < count; k++)
+            check_error(serials[i], serials[k]);
+}
+
+/*
+ * An error for some destinations whose serial is lower than some of the entries'. Station 1 of 16 has successor 0 for 2 to 6, and 2 besides
+ * for 4; 3 is not masked. What is removed and what is emptied go by the entries that leave.
+ */
+static void check_mixed_error(const uint64_t *kept, uint64_t serial, uint32_t answer, unsigned mask)
+{
+    struct desk *d = opened(16, 1);
+
+    CHECK_EQ(call_on(d, (struct call){SRP_EVENT_UP, 1, 5}, LENT, OUT), SRP_DONE);
+    CHECK_EQ(call_on(d, (struct call){SRP_EVENT_UP, 7, 1}, LENT, OUT), SRP_DONE);
+    for (unsigned t = 2; t <= 6; t++) {
+        put_successors(d->memory, 1, t, t == 4 ? 2 : 1);
+        put_entry_serial(d, 1, t, 0, kept[t - 2]);
+    }
+    put_error(d, 0, 1, 1u << 2 | 1u << 4 | 1u << 5 | 1u << 6, serial);
+    CHECK_PREVIEW(d, 0, answer, mask ? 2 : 0, 0, 0, 0, 0, mask);
+    CHECK_DONE(d, answer, mask ? 2 : 0, SRP_EVENT_DELIVER, 0, 0);
+    for (unsigned t = 2; t <= 6; t++) {
+        bool removed = t != 3 && serial >= kept[t - 2];
+
+        CHECK_EQ(d->memory[SRP_ROW_AT(1, t) + SRP_ROW_COUNT], (t == 4 ? 2u : 1u) - removed);
+    }
+    CHECK_EQ(emptied(d->before, d->memory, 1), mask);
+    if (mask) {
+        CHECK_EQ(srp_read2(d->memory + SRP_PACKET_AT(0) + SRP_PACKET_MASK), mask);
+        CHECK_EQ(srp_read2(d->memory + SRP_PACKET_AT(1) + SRP_PACKET_MASK), mask);
+        CHECK_EQ(packet_serial(d, 0), 1);
+        CHECK_EQ(packet_serial(d, 1), 1);
+    }
+    CHECK_EQ(last_serial(d, 1), mask ? 1 : 0);
+    free(d);
+}
+
+static void test_mixed_errors(void)
+{
+    static const uint64_t kept[] = {10, 0, 20, 30, 40};
+
+    check_mixed_error(kept, 9, SRP_ERROR_NONE_REMOVED, 0);
+    check_mixed_error(kept, 10, SRP_ERROR_EMPTIED, 1u << 2);
+    check_mixed_error(kept, 19, SRP_ERROR_EMPTIED, 1u << 2);
+    check_mixed_error(kept, 29, SRP_ERROR_EMPTIED, 1u << 2);
+    check_mixed_error(kept, 30, SRP_ERROR_EMPTIED, 1u << 2 | 1u << 5);
+    check_mixed_error(kept, 40, SRP_ERROR_EMPTIED, 1u << 2 | 1u << 5 | 1u << 6);
+    check_mixed_error((const uint64_t[]){30, 0, 20, 30, 30}, 20, SRP_ERROR_NONE_EMPTIED, 0);
+    check_mixed_error((const uint64_t[]){30, 0, 20, 30, 30}, 30, SRP_ERROR_EMPTIED, 1u << 2 | 1u << 5 | 1u << 6);
+}
+
+/* A reply that replaces an entry or adds one leaves its own serial there, also a lower one. Other entries keep theirs. */
+static void test_entry_serials(void)
+{
+    static const uint64_t serials[] = {0, 7, 99, 100, 101, UINT64_MAX};
+
+    for (size_t k = 0; k < sizeof serials / sizeof *serials; k++) {
+        struct desk *d = example_after(7);
+        uint8_t *row = d->memory + SRP_ROW_AT(2, 0);
+
+        put_label(d->memory + SRP_LABEL_AT(2, 0), 1, 2, 3);
+        row[SRP_ROW_COUNT] = 2;
+        for (unsigned e = 0; e < 2; e++) {
+            entry_at(d, 2, 0, e)[SRP_ENTRY_STATION] = (uint8_t)(1 - e);
+            put_label(entry_at(d, 2, 0, e) + SRP_ENTRY_LABEL, 3, 0, 1);
+        }
+        put_entry_serial(d, 2, 0, 0, 100);
+        put_entry_serial(d, 2, 0, 1, 50);
+        put_label(d->memory + SRP_PACKET_AT(0) + SRP_PACKET_LABEL, 2, 0, 1);
+        put_packet_serial(d, 0, serials[k]);
+        check_preview(d, 0, OUT);
+        CHECK_EQ(srp_preview(d->memory, LENT, 0, d->out, OUT), result(SRP_REPLY_TAKEN, 0));
+        CHECK_EQ(srp_read8(d->out + SRP_PREVIEW_ROW + SRP_ROW_ENTRIES + SRP_ENTRY_SERIAL), serials[k]);
+        CHECK_DONE(d, SRP_REPLY_TAKEN, 0, SRP_EVENT_DELIVER, 0, 0);
+        CHECK_EQ(row[SRP_ROW_COUNT], 2);
+        CHECK_EQ(entry_at(d, 2, 0, 0)[SRP_ENTRY_STATION], 1);
+        CHECK_LABEL(entry_at(d, 2, 0, 0) + SRP_ENTRY_LABEL, 2, 0, 1);
+        CHECK_EQ(entry_serial(d, 2, 0, 0), serials[k]);
+        CHECK_EQ(entry_serial(d, 2, 0, 1), 50);
+        free(d);
+
+        /* The first entry leaves, and the reply's is added. */
+        d = example_after(7);
+        row = d->memory + SRP_ROW_AT(2, 0);
+        put_label(d->memory + SRP_LABEL_AT(2, 0), 1, 2, 3);
+        row[SRP_ROW_COUNT] = 1;
+        put_label(entry_at(d, 2, 0, 0) + SRP_ENTRY_LABEL, 1, 0, 1);
+        put_entry_serial(d, 2, 0, 0, 100);
+        put_label(d->memory + SRP_PACKET_AT(0) + SRP_PACKET_LABEL, 2, 0, 1);
+        put_packet_serial(d, 0, serials[k]);
+        CHECK_DONE(d, SRP_REPLY_TAKEN, 0, SRP_EVENT_DELIVER, 0, 0);
+        CHECK_EQ(row[SRP_ROW_COUNT], 1);
+        CHECK_EQ(entry_serial(d, 2, 0, 0), serials[k]);
+        free(d);
+    }
+}
+
+/* A reply that is not taken leaves the entry's serial. */
+static void test_entry_serial_kept(void)
+{
+    struct desk *d = example_after(EXAMPLE);
+
+    CHECK_EQ(call_on(d, (struct call){SRP_EVENT_SOLICIT, 2, 0}, LENT, OUT), result(SRP_DONE, 1));
+    CHECK_EQ(call_on(d, (struct call){SRP_EVENT_DELIVER, 0, 0}, LENT, OUT), result(SRP_REQUEST_ANSWERED, 1));
+    put_label(d->memory + SRP_PACKET_AT(0) + SRP_PACKET_LABEL, 1, 2, 3);
+    put_packet_serial(d, 0, 77);
+    CHECK_DONE(d, SRP_OWN_NOT_ABOVE, 0, SRP_EVENT_DELIVER, 0, 0);
+    CHECK_EQ(entry_serial(d, 2, 0, 0), 2);
+    free(d);
+}
+
+/*
+ * After the example the link of 0 and 1 goes down and comes up again, and 2 gets a fresh route over 1 before 1's error arrives. The error and
+ * its copy leave the route, and the error of the next time takes it.
+ */
+static void test_late_error(void)
+{
+    static const struct step steps[] = {
+        {{SRP_EVENT_DOWN, 0, 1}, 0, 1, 1},      {{SRP_EVENT_UP, 0, 1}, 0, 0, 1},        {{SRP_EVENT_SOLICIT, 2, 0}, 0, 1, 2},
+        {{SRP_EVENT_DELIVER, 1, 0}, 103, 2, 3}, {{SRP_EVENT_DELIVER, 1, 0}, 102, 1, 3}, {{SRP_EVENT_DELIVER, 1, 0}, 101, 0, 2},
+        {{SRP_EVENT_DELIVER, 1, 0}, 115, 1, 2}, {{SRP_EVENT_DELIVER, 1, 0}, 115, 0, 1}, {{SRP_EVENT_DUPLICATE, 0, 0}, 0, 0, 2},
+        {{SRP_EVENT_DELIVER, 0, 0}, 121, 0, 1}, {{SRP_EVENT_TRACE, 2, 0}, 131, 2, 1},   {{SRP_EVENT_DELIVER, 0, 0}, 121, 0, 0},
+        {{SRP_EVENT_TRACE, 2, 0}, 131, 2, 0},   {{SRP_EVENT_DOWN, 0, 1}, 0, 1, 1},      {{SRP_EVENT_DELIVER, 0, 0}, 123, 1, 1},
+        {{SRP_EVENT_TRACE, 2, 0}, 132, 0, 1},   {{SRP_EVENT_DELIVER, 0, 0}, 121, 0, 0},
+    };
+    struct desk *d = example_after(EXAMPLE);
+
+    play(d, steps, 0, sizeof steps / sizeof *steps);
+    free(d);
+}
+
+/* 13 of Solicit: after 2, 4 and 8, before 7, and only with a neighbour. One serial less is taken. */
+static void test_solicit_used_up(void)
+{
+    struct desk *d = example_after(3);
+
+    put_last_serial(d, 0, UINT64_MAX);
+    put_last_serial(d, 2, UINT64_MAX);
+    CHECK_REFUSED(d, SRP_SERIALS_USED_UP, SRP_EVENT_SOLICIT, 0, 1);
+    CHECK_REFUSED(d, SRP_NO_STATION, SRP_EVENT_SOLICIT, 0, 3);
+    CHECK_REFUSED(d, SRP_NO_STATION, SRP_EVENT_SOLICIT, 0, 0);
+    CHECK_REFUSED(d, SRP_IS_ACTIVE, SRP_EVENT_SOLICIT, 2, 1);
+    put(d->memory + SRP_STATION_AT(0) + SRP_STATION_NUMBER, 4, UINT32_MAX);
+    CHECK_REFUSED(d, SRP_NUMBERS_USED_UP, SRP_EVENT_SOLICIT, 0, 1);
+    put(d->memory + SRP_STATION_AT(0) + SRP_STATION_NUMBER, 4, UINT32_MAX - 1);
+    CHECK_REFUSED(d, SRP_SERIALS_USED_UP, SRP_EVENT_SOLICIT, 0, 1);
+    fill_air(d, SRP_MAX_PACKETS);
+    CHECK_REFUSED(d, SRP_SERIALS_USED_UP, SRP_EVENT_SOLICIT, 0, 1);
+    put_last_serial(d, 0, UINT64_MAX - 1);
+    CHECK_REFUSED(d, SRP_AIR_FULL, SRP_EVENT_SOLICIT, 0, 1);
+    CHECK_DONE(d, 0, 0, SRP_EVENT_LOSE, 0, 0);
+    CHECK_DONE(d, 0, 1, SRP_EVENT_SOLICIT, 0, 1);
+    CHECK_EQ(last_serial(d, 0), UINT64_MAX);
+    CHECK_EQ(packet_serial(d, SRP_MAX_PACKETS - 1), UINT64_MAX);
+    put(d->memory + SRP_STATION_AT(0) + SRP_STATION_NUMBER, 4, 1);
+    CHECK_DONE(d, 0, 0, SRP_EVENT_GIVE_UP, 0, 0);
+    CHECK_REFUSED(d, SRP_SERIALS_USED_UP, SRP_EVENT_SOLICIT, 0, 1);
+    CHECK_DONE(d, 0, 0, SRP_EVENT_DOWN, 0, 1);
+    CHECK_DONE(d, 0, 0, SRP_EVENT_SOLICIT, 0, 1);
+    CHECK_EQ(last_serial(d, 0), UINT64_MAX);
+    free(d);
+}
+
+/*
+ * 13 of Deliver and of its preview, whose 12 comes after it; where the receiver would not send, or has one serial left, it is not given. The
+ * desk is freed.
+ */
+static void check_deliver_used_up(int line, struct desk *d, size_t k, uint32_t answer, uint32_t count)
+{
+    unsigned long failures = tally.failures;
+    unsigned i = d->memory[SRP_PACKET_AT(k) + SRP_PACKET_RECEIVER];
+    uint8_t *network = copied(d->memory, LENT);
+
+    put_last_serial(d, i, UINT64_MAX);
+    check_previews(d);
+    if (count) {
+        check_refused(line, d, (struct call){SRP_EVENT_DELIVER, k, 0}, LENT, OUT, SRP_SERIALS_USED_UP);
+        check_refused(line, d, (struct call){PREVIEW, k, 0}, LENT, OUT, SRP_SERIALS_USED_UP);
+        check_refused(line, d, (struct call){PREVIEW, k, 0}, LENT, 0, SRP_SERIALS_USED_UP);
+        check_refused(line, d, (struct call){SRP_EVENT_DELIVER, d->memory[SRP_AIR_AT], 0}, LENT, OUT, SRP_NO_PACKET);
+        put_last_serial(d, i, UINT64_MAX - 1);
+        check_previews(d);
+    }
+    check_done(line, d, (struct call){SRP_EVENT_DELIVER, k, 0}, result(answer, count));
+    CHECK_EQ(last_serial(d, i), UINT64_MAX);
+    for (unsigned j = 0; j < d->memory[SRP_N_AT]; j++)
+        if (j != i)
+            CHECK_SAME(d->memory + SRP_STATION_AT(j), network + SRP_STATION_AT(j), SRP_STATION_BYTES);
+    for (unsigned air = d->memory[SRP_AIR_AT], at = air < count ? 0 : air - count; at < air; at++)
+        CHECK_EQ(packet_serial(d, at), UINT64_MAX);
+    if (tally.failures != failures)
+        fprintf(stderr, "    at line %d\n", line);
+    free(network);
+    free(d);
+}
+
+#define CHECK_DELIVER_USED_UP(d, k, answer, count) check_deliver_used_up(__LINE__, (d), (k), (answer), (count))
+
+/* The reply that 0 sends to 1 in the example, with this label; 1 has the label (1, 1/2), and the successor 0 or none. */
+static struct desk *reply_at_1(uint64_t s, uint32_t m, uint32_t denominator, unsigned successors)
+{
+    struct desk *d = example_after(6);
+    uint8_t *row = d->memory + SRP_ROW_AT(1, 0);
+
+    put_label(d->memory + SRP_LABEL_AT(1, 0), 1, 1, 2);
+    row[SRP_ROW_COUNT] = (uint8_t)successors;
+    put_label(row + SRP_ROW_ENTRIES + SRP_ENTRY_LABEL, 1, 0, 1);
+    put_label(d->memory + SRP_PACKET_AT(0) + SRP_PACKET_LABEL, s, m, denominator);
+    return d;
+}
+
+static void test_deliver_used_up(void)
+{
+    struct desk *d = example_after(3);
+
+    CHECK_DELIVER_USED_UP(d, 0, SRP_REQUEST_SENT_ON, 2);
+    d = example_after(4);
+    CHECK_DELIVER_USED_UP(d, 0, SRP_REQUEST_ANSWERED, 1);
+    d = example_after(4);
+    CHECK_DELIVER_USED_UP(d, 1, SRP_REQUEST_KNOWN, 0); /* its source */
+    d = example_after(3);
+    CHECK_DONE(d, 0, 0, SRP_EVENT_DUPLICATE, 0, 0);
+    CHECK_DONE(d, SRP_REQUEST_SENT_ON, 2, SRP_EVENT_DELIVER, 0, 0);
+    CHECK_DELIVER_USED_UP(d, 0, SRP_REQUEST_KNOWN, 0); /* the copy */
+    /* The destination with the reset bit: it replies, or its sequence number cannot rise. */
+    d = example_after(4);
+    d->memory[SRP_PACKET_AT(0) + SRP_PACKET_RESET] = 1;
+    put_label(d->memory + SRP_PACKET_AT(0) + SRP_PACKET_LABEL, UINT64_MAX - 1, 0, 1);
+    CHECK_DELIVER_USED_UP(d, 0, SRP_REQUEST_ANSWERED, 1);
+    d = example_after(4);
+    d->memory[SRP_PACKET_AT(0) + SRP_PACKET_RESET] = 1;
+    put_label(d->memory + SRP_PACKET_AT(0) + SRP_PACKET_LABEL, UINT64_MAX, 0, 1);
+    CHECK_DELIVER_USED_UP(d, 0, SRP_REQUEST_NOT_ANSWERED, 0);
+    /* A station with a route answers. */
+    d = square_after(13);
+    CHECK_DELIVER_USED_UP(d, 0, SRP_REQUEST_ANSWERED, 1);
+
+    /* A reply: it is passed on after 112, 114 and 115, but not at the source, not without a route, and not twice. */
+    d = example_after(6);
+    CHECK_DELIVER_USED_UP(d, 0, SRP_REPLY_TAKEN, 1);
+    CHECK_DELIVER_USED_UP(reply_at_1(1, 2, 3, 1), 0, SRP_OWN_NOT_ABOVE, 1);
+    CHECK_DELIVER_USED_UP(reply_at_1(1, 2, 3, 0), 0, SRP_OWN_NOT_ABOVE, 0);
+    CHECK_DELIVER_USED_UP(reply_at_1(2, 1, UINT32_MAX, 1), 0, SRP_DOES_NOT_FIT, 1);
+    CHECK_DELIVER_USED_UP(reply_at_1(2, 1, UINT32_MAX, 0), 0, SRP_DOES_NOT_FIT, 0);
+    CHECK_DELIVER_USED_UP(reply_at_1(2, 0, 1, 1), 0, SRP_REPLY_TAKEN, 1);
+    d = reply_at_1(2, 0, 1, 1);
+    d->memory[SRP_RECORD_AT(1, 2) + SRP_RECORD_PASSED] = 1;
+    CHECK_DELIVER_USED_UP(d, 0, SRP_REPLY_TAKEN, 0);
+    d = reply_at_1(1, 0, 1, 1);
+    put_label(d->memory + SRP_RECORD_AT(1, 2) + SRP_RECORD_CACHED, 1, 0, 1);
+    CHECK_DELIVER_USED_UP(d, 0, SRP_CACHED_NOT_ABOVE, 0);
+    d = reply_at_1(1, 0, 1, 1);
+    d->memory[SRP_LINK_AT(1, 2)] = 0;
+    CHECK_DELIVER_USED_UP(d, 0, SRP_REPLY_TAKEN, 0);
+    d = example_after(7);
+    CHECK_DELIVER_USED_UP(d, 0, SRP_REPLY_TAKEN, 0);
+    d = example_after(7);
+    put(d->memory + SRP_PACKET_AT(0) + SRP_PACKET_NUMBER, 4, 2);
+    CHECK_DELIVER_USED_UP(d, 0, SRP_REPLY_UNASKED, 0);
+    d = example_after(7);
+    d->memory[SRP_PACKET_AT(0) + SRP_PACKET_RECEIVER] = 0;
+    CHECK_DELIVER_USED_UP(d, 0, SRP_REPLY_UNASKED, 0); /* its destination */
+
+    /* An error: station 3 of the square has another successor, or none. */
+    d = square_after(18);
+    CHECK_DELIVER_USED_UP(d, 0, SRP_ERROR_NONE_EMPTIED, 0);
+    d = square_after(18);
+    d->memory[SRP_ROW_AT(3, 0) + SRP_ROW_COUNT] = 1;
+    CHECK_DELIVER_USED_UP(d, 0, SRP_ERROR_EMPTIED, 2);
+    d = square_after(18);
+    d->memory[SRP_ROW_AT(3, 0) + SRP_ROW_COUNT] = 0;
+    CHECK_DELIVER_USED_UP(d, 0, SRP_ERROR_NONE_REMOVED, 0);
+}
+
+/* 13 before 7, of Deliver and its preview; and a packet that is answered 13 is lost by draining. */
+static void test_full_and_used_up(void)
+{
+    struct desk *d = example_after(3);
+
+    fill_air(d, SRP_MAX_PACKETS);
+    CHECK_REFUSED(d, SRP_AIR_FULL, SRP_EVENT_DELIVER, 0, 0);
+    put_last_serial(d, 1, UINT64_MAX);
+    CHECK_REFUSED(d, SRP_SERIALS_USED_UP, SRP_EVENT_DELIVER, 0, 0);
+    CHECK_REFUSED(d, SRP_SERIALS_USED_UP, PREVIEW, 0, 0);
+    check_drain(__LINE__, d, 0, SRP_MAX_PACKETS);
+    free(d);
+
+    /* An error that empties a row of station 3, which has two neighbours. */
+    d = square_after(18);
+    d->memory[SRP_ROW_AT(3, 0) + SRP_ROW_COUNT] = 1;
+    fill_air(d, SRP_MAX_PACKETS);
+    CHECK_REFUSED(d, SRP_AIR_FULL, SRP_EVENT_DELIVER, 0, 0);
+    put_last_serial(d, 3, UINT64_MAX);
+    CHECK_REFUSED(d, SRP_SERIALS_USED_UP, SRP_EVENT_DELIVER, 0, 0);
+    CHECK_REFUSED(d, SRP_SERIALS_USED_UP, PREVIEW, 0, 0);
+    check_drain(__LINE__, d, 0, SRP_MAX_PACKETS);
+    free(d);
+}
+
+/* 01's example from its request on. The request is lost at 1, or sent on and lost at 0, or its reply is lost at 1. */
+static void test_drain_used_up(void)
+{
+    struct desk *d = example_after(3);
+
+    put_last_serial(d, 1, UINT64_MAX);
+    check_drain(__LINE__, d, 0, 1);
+    free(d);
+    d = example_after(3);
+    put_last_serial(d, 0, UINT64_MAX);
+    check_drain(__LINE__, d, 2, 1);
+    CHECK_EQ(last_serial(d, 1), 1);
+    free(d);
+    d = example_after(3);
+    put_last_serial(d, 1, UINT64_MAX - 1);
+    check_drain(__LINE__, d, 3, 1);
+    CHECK_EQ(last_serial(d, 0), 1);
+    CHECK_EQ(d->memory[SRP_ROW_AT(1, 0) + SRP_ROW_COUNT], 0);
+    free(d);
+    /* A full air, of which one is lost since it has no room, then what station 0 would answer. */
+    d = example_after(3);
+    fill_air(d, SRP_MAX_PACKETS);
+    put_last_serial(d, 0, UINT64_MAX);
+    check_drain(__LINE__, d, 128, 2);
+    free(d);
+}
+
 /* ---- Damaged memory ------------------------------------------------------------------------- */
 
 /* A byte of the square after its last step, and a value that it must not have. */
@@ -1652,7 +2284,8 @@ static const struct wrong_byte meaningless[] = {
     {SRP_VERSION_AT, 0},
     {SRP_VERSION_AT, 4}, /* as many stations as there are */
     {SRP_VERSION_AT, 16},
-    {SRP_VERSION_AT, 18},
+    {SRP_VERSION_AT, 17}, /* the version before */
+    {SRP_VERSION_AT, 19},
     {SRP_VERSION_AT, 255},
     {SRP_N_AT, 17},
     {SRP_N_AT, 255},
@@ -2092,6 +2725,20 @@ int main(int argc, char **argv)
     test_no_room();
     test_short_slices();
     test_open_refused();
+    test_serials();
+    test_serials_of_down();
+    test_serials_of_errors();
+    test_serials_of_nobody();
+    test_serials_of_copies();
+    test_late_errors();
+    test_mixed_errors();
+    test_entry_serials();
+    test_entry_serial_kept();
+    test_late_error();
+    test_solicit_used_up();
+    test_deliver_used_up();
+    test_full_and_used_up();
+    test_drain_used_up();
     test_version();
     test_wrong_bytes();
     test_own_row();

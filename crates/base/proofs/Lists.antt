@@ -2,7 +2,7 @@
 use Prim.Native.Nat.{ℕ, zero, suc, _*_, _≤_, _<_}
 use mathlib.Core.Path.{_≡_, refl, sym, ap, subst, _∙_}
 use mathlib.Core.Logic.{_≢_}
-use mathlib.Core.Bool.{Bool, true, false, not, _&&_, _||_, or-false, or-assoc}
+use mathlib.Core.Bool.{Bool, true, false, not, _&&_, _||_, or-true, or-false, or-assoc, false≢true}
 use mathlib.Core.List.{List, [], _∷_, _++_, map, tail, flatMap, append-assoc, append-nil, List·Memᴰ, List·Memᴰ·head, List·Memᴰ·tail, List·Memᴰ·not-nil}
 use mathlib.Core.List.{List·Memᴰ·cases-cons, List·Memᴰ·append-cases, List·Memᴰ·eq-of-singleton}
 use lib.ListN.{length, getD, set, take, drop, replicate, length-append, length-map}
@@ -11,7 +11,7 @@ use lib.Dec.{eqb}
 use native.Mathlib.Omega.{arith}
 use borrow.Author.Tests.{eqb-true, eqb-false, eq-eqb, ne-eqb, not-true}
 use Rattle.base.specs.Choice.{if_then_else_}
-use Rattle.base.specs.Lists.{allBelow, below, allIn, someIn, keep, isEmpty, distinct}
+use Rattle.base.specs.Lists.{allBelow, someBelow, below, allIn, someIn, keep, isEmpty, distinct}
 use Rattle.base.proofs.Booleans.{clash, both, neither, passes, negates, iff, choose, cases, Trichotomy, less, equal, more, trichotomy}
 
 -- Every number below n passes.
@@ -29,6 +29,41 @@ all-below-at (suc n) f e i h = go (trichotomy i n) (λ l. all-below-at n f (both
     go (less l) ih = ih l
     go (equal q) ih = ap f q ∙ both (allBelow n f) (f n) e .1
     go (more l) ih = absurd (omega arith)
+
+-- Where no number but a and b passes, some number below n does if one of the two does.
+some-at : (n : ℕ) (f : ℕ → Bool) (i : ℕ) → i < n → f i ≡ true → someBelow n f ≡ true
+unfolding someBelow
+some-at zero f i h e = absurd (omega arith)
+some-at (suc n) f i h e = go (trichotomy i n) (λ l. some-at n f i l e)
+  where
+    go : Trichotomy i n → (i < n → someBelow n f ≡ true) → someBelow n f || f n ≡ true
+    go (less l) ih = rw (ih l)
+    go (equal q) ih = rw (sym (ap f q) ∙ e, or-true (someBelow n f))
+    go (more l) ih = absurd (omega arith)
+
+some-which : (n : ℕ) (f : ℕ → Bool) → someBelow n f ≡ true → (i : ℕ) × (i < n) × (f i ≡ true)
+unfolding someBelow
+some-which zero f h = absurd (false≢true h)
+some-which (suc n) f h = go (someBelow n f) refl (some-which n f)
+  where
+    go : (t : Bool) → someBelow n f ≡ t → (someBelow n f ≡ true → (i : ℕ) × (i < n) × (f i ≡ true)) → (i : ℕ) × (i < suc n) × (f i ≡ true)
+    go true q ih = let (i, k, e) = ih q in (i, omega arith, e)
+    go false q ih = (n, omega arith, rw q at h)
+
+pub some-of-two : (n : ℕ) (f : ℕ → Bool) (a b : ℕ) → a < n → b < n → ((i : ℕ) → i < n → i ≢ a → i ≢ b → f i ≡ false) → someBelow n f ≡ f a || f b
+some-of-two n f a b ha hb none = iff (someBelow n f) (f a || f b) which (λ h. one (f a) refl h)
+  where
+    which : someBelow n f ≡ true → f a || f b ≡ true
+    which h = let (i, k, e) = some-which n f h in here i k e (eqb i a) refl (eqb i b) refl
+      where
+        here : (i : ℕ) → i < n → f i ≡ true → (t : Bool) → eqb i a ≡ t → (u : Bool) → eqb i b ≡ u → f a || f b ≡ true
+        here i k e true q u r = rw (ap f (sym (eqb-true i a q)), e)
+        here i k e false q true r = rw (ap f (sym (eqb-true i b r)), e, or-true (f a))
+        here i k e false q false r = clash e (none i k (eqb-false i a q) (eqb-false i b r))
+
+    one : (t : Bool) → f a ≡ t → f a || f b ≡ true → someBelow n f ≡ true
+    one true q h = some-at n f a ha q
+    one false q h = some-at n f b hb (rw q at h)
 
 -- The numbers below n that pass are below n and pass.
 pub below-mem : (n : ℕ) (f : ℕ → Bool) {x : ℕ} → List·Memᴰ x (below n f) → (x < n) × (f x ≡ true)

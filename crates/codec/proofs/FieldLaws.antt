@@ -7,13 +7,13 @@ use lib.ListN.{length, getD, take, drop, set, length-append, length-take, drop-o
 use lib.Seq.{sets, drop-cons, take-all, take-suc-set, append-snoc}
 use lib.Dec.{ltb, eqb}
 use mir.Val.{boolByte}
-use native.Mathlib.Nat.{add-zero, min-le-left, pow-le-pow-right, lt-of-lt-of-le}
+use native.Mathlib.Nat.{min-le-left, pow-le-pow-right, lt-of-lt-of-le}
 use native.Mathlib.Omega.{arith}
 use Rattle.base.proofs.Booleans.{both}
 use Rattle.codec.specs.Bytes.{isWidth, littleEndian, numberAt, AllBytes}
 use Rattle.codec.proofs.ByteLaws.{sets-next, little-length, number-below, bytes-take, bytes-drop}
 use Rattle.codec.proofs.TableLaws.{Stands, stands-first, stands-rest, stands-number}
-use Rattle.codec.specs.Fields.{Field, number, flag, widths, values, total, entryBytes, valuesAt, placeOf, FitFrom, AllFit, areWidths, written, Fits, read, flagsFrom, flagsAt}
+use Rattle.codec.specs.Fields.{Field, number, flag, widths, values, total, entryBytes, valuesAt, FitFrom, AllFit, areWidths, written, Fits, read, flagsFrom, flagsAt}
 
 -- The width of an entry is the sum of its fields' widths.
 pub entry-wide : (ws vs : List ℕ) → length vs ≡ length ws → length (entryBytes ws vs) ≡ total ws
@@ -41,15 +41,6 @@ values-back bytes at (w ∷ ws) (v ∷ vs) e fits h =
     let first = stands-number bytes at w v (fits .0) (stands-first bytes at (littleEndian w v) (entryBytes ws vs) h) in
     let rest = stands-rest bytes at w (littleEndian w v) (entryBytes ws vs) (little-length w v) h in
     ap₂ _∷_ first (values-back bytes (at + w) ws vs (omega arith) (fit-rest 0 ws v vs (fits .1)) rest)
-
--- A value alone: its place is the sum of the widths before it.
-pub value-at : (bytes ws : List ℕ) (at k : ℕ) → k < length ws → getD (valuesAt ws bytes at) k 0 ≡ numberAt (getD ws k 0) bytes (at + placeOf ws k)
-unfolding valuesAt
-value-at bytes [] at k m = absurd (omega arith)
-value-at bytes (w ∷ ws) at zero m = rw add-zero
-value-at bytes (w ∷ ws) at (suc k) m =
-    let next : at + w + placeOf ws k ≡ at + (w + placeOf ws k) = omega arith in
-    value-at bytes ws (at + w) k (omega arith) ∙ rw next
 
 -- The same of a format.
 values-long : {A : Type 0} (format : List (Field A)) (x : A) → length (values format x) ≡ length (widths format)

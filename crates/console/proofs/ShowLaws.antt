@@ -12,14 +12,14 @@ use Rattle.codec.specs.Bytes.{Puts}
 use Rattle.codec.proofs.ByteLaws.{puts-refused, puts-accepted}
 use Rattle.model.specs.Memory.{Network, memoryInRange}
 use Rattle.layout.specs.Meaning.{storedNetwork}
-use Rattle.layout.proofs.MeaningLaws.{Known, known}
+use Rattle.layout.proofs.MeaningLaws.{Readable, readable}
 use Rattle.console.specs.Packed.{packed, telling}
 use Rattle.console.specs.Showing.{outOfRange, showing, shownIn}
 
 -- What is known of bytes in range.
-pub range-known : (bytes : List ℕ) → outOfRange bytes ≡ false → Known bytes
+pub range-readable : (bytes : List ℕ) → outOfRange bytes ≡ false → Readable bytes
 unfolding outOfRange
-range-known bytes h = known bytes (not-false (memoryInRange (storedNetwork bytes)) h)
+range-readable bytes h = readable bytes (not-false (memoryInRange (storedNetwork bytes)) h)
 
 module _ {A : Type 0} (bytes : List ℕ) (show : Network → Result A) where
   pub showing-1 : outOfRange bytes ≡ true → showing bytes show ≡ refused 1

@@ -23,7 +23,7 @@ use Rattle.layout.specs.Stored.{storedLabel, storedRow, storedRecord, storedSta
 use Rattle.layout.specs.Written.{labelBytes, rowBytes, recordBytes, stationBytes, packetBytes}
 use Rattle.layout.specs.Meaning.{storedNetwork}
 use Rattle.layout.proofs.EntryLaws.{row-wide, packet-wide}
-use Rattle.layout.proofs.MeaningLaws.{Known}
+use Rattle.layout.proofs.MeaningLaws.{Readable}
 use Rattle.layout.proofs.StoredLaws.{label-at, row-at, record-at, station-at, link-at, packet-at, air-count}
 use Rattle.console.specs.Showing.{showSize, showAir, showLink, showLabel, showRow, showRecord, showStation, showPacket, showPart}
 use Rattle.console.specs.Parts.{partRefusal, partWide, partIn}
@@ -52,7 +52,7 @@ module _ (bytes : List ℕ) (few : byteAt bytes sizeAt ≤ 16) where
   pair-below a b h = both-below a b (neither (noStations bytes a b) (eqb a b) h .0)
 
 -- Numbers that are shown.
-module _ (bytes : List ℕ) (k : Known bytes) where
+module _ (bytes : List ℕ) (k : Readable bytes) where
   pub show-size : showSize (storedNetwork bytes) ≡ accepted (byteAt bytes sizeAt)
   unfolding showSize networkIn
   show-size = rw (k .is)
@@ -107,7 +107,7 @@ which part = go (eqb part 1) refl (eqb part 2) refl (eqb part 3) refl (eqb part 
     go false e false f false g false h = a-packet (eqb-false part 1 e) (eqb-false part 2 f) (eqb-false part 3 g) (eqb-false part 4 h)
 
 -- A part that is turned down or shown, and how wide it is.
-module _ (bytes : List ℕ) (k : Known bytes) (i t : ℕ) where
+module _ (bytes : List ℕ) (k : Readable bytes) (i t : ℕ) where
   abbrev refusal : ℕ → ℕ
   refusal part = partRefusal part (byteAt bytes sizeAt) (byteAt bytes airAt) i t
 

@@ -55,7 +55,7 @@ showRecord i source net =
     refuse 2 when notPair net i source otherwise
     accepted (recordBytes (recordAt net i source))
 
--- What a station keeps of its own requests.
+-- What a station keeps of its own requests and sendings.
 unfoldable pub showStation : (i : ℕ) → Network → Result (List ℕ)
 showStation i net =
     refuse 2 when notStation net i otherwise

@@ -209,7 +209,7 @@ pub extern "C" fn srp_record(memory: &[u8], i: usize, source: usize, out: &mut [
     show(memory, RECORD, i, source, out)
 }
 
-// What station i keeps of its own requests.
+// What station i keeps of its own requests and sendings.
 #[no_mangle]
 pub extern "C" fn srp_station(memory: &[u8], i: usize, out: &mut [u8]) -> u64
     ensures { λ r. ⌜ Puts telling (showing (now (memory .entry)) (showStation i) andThen shownIn (length (now (out .entry)))) (now (out .entry)) r (now (out .exit)) ⌝ }

@@ -1,15 +1,15 @@
 -- The tests of each event, by what is gathered for them.
-use Prim.Native.Nat.{ℕ, suc, _<_}
+use Prim.Native.Nat.{ℕ, suc, _≤_, _<_}
 use mathlib.Core.Path.{_≡_, refl, ap, _∙_}
 use mathlib.Core.Logic.{_≢_}
-use mathlib.Core.Bool.{Bool, true, false, not, _&&_, _||_}
+use mathlib.Core.Bool.{Bool, true, false, not, _&&_, _||_, and-true, and-false, or-false}
 use lib.Dec.{ltb, leb, eqb}
 use native.Mathlib.Omega.{arith}
 use borrow.Author.Tests.{lt-ltb, ltb-true, ltb-false, leb-false, eqb-true, eqb-false, not-true, not-false}
 use Rattle.base.specs.Choice.{if_then_else_}
-use Rattle.base.specs.Numbers.{maxU32}
+use Rattle.base.specs.Numbers.{maxU32, maxU64}
 use Rattle.base.specs.Results.{refused}
-use Rattle.base.proofs.Booleans.{both, passes, clash, choose}
+use Rattle.base.proofs.Booleans.{both, neither, passes, clash, choose}
 use Rattle.model.specs.Memory.{Network}
 use Rattle.model.specs.Calls.{Call, Up, Down, Solicit, GiveUp, Expire, Deliver, Lose, Duplicate, notStation, notPair, notPacket, step, traced, trace}
 use Rattle.model.specs.Events.{notEvent, callOf, calls, traces, noEvent, eventOf}
@@ -17,7 +17,7 @@ use Rattle.model.proofs.Refusals.{up-2, up-3, down-2, down-3, solicit-2, solici
 use Rattle.model.proofs.Refusals.{pair-tells, deliver-6, lose-6, duplicate-6}
 use Rattle.model.proofs.Tracing.{trace-no-pair}
 use Rattle.model.proofs.EventLaws.{event-kinds, event-trace, event-call, call-5, call-6, call-7, call-8}
-use Rattle.decisions.specs.Refusing.{Seen, Passes, Tests}
+use Rattle.decisions.specs.Refusing.{Seen, Passes, Tests, sendingRefusal}
 
 -- What the tests of an event say.
 module _ (net : Network) (r : ℕ) where
@@ -165,3 +165,38 @@ module _ (kind a b : ℕ) (event : notEvent kind b ≡ false) where
         go : (x : Bool) → eqb kind 9 ≡ x → Tests net (eventOf kind a b) r
         go true p = rw (event-trace kind a b event (eqb-true kind 9 p), e) (trace-tests seen)
         go false p = let nine = eqb-false kind 9 p in call-tests net nine (call-5 kind a b (five h k nine)) e (expire-tests seen)
+
+-- 13 and 7.
+module _ (limit air first sent second more : ℕ) {number : ℕ} (e : number ≡ sendingRefusal limit air first sent second more) where
+  pub both-send : number ≡ (if leb maxU64 first && ltb 0 sent || leb maxU64 second && ltb 0 more then 13 else if ltb limit air then 7 else 0)
+  unfolding sendingRefusal
+  both-send = e
+
+  -- Where the second station sends nothing.
+  pub first-alone : more ≡ 0 → number ≡ (if leb maxU64 first && ltb 0 sent then 13 else if ltb limit air then 7 else 0)
+  first-alone none = both-send ∙ rw (none, and-false (leb maxU64 second), or-false (leb maxU64 first && ltb 0 sent))
+
+  -- Where neither is given, a station that sends has a number left, and the packets are within the limit.
+  module _ (zero : number ≡ 0) where
+    abbrev used : Bool
+    used = leb maxU64 first && ltb 0 sent || leb maxU64 second && ltb 0 more
+
+    unused : used ≡ false
+    unused = go used refl both-send
+      where
+        go : (x : Bool) → used ≡ x → number ≡ (if x then 13 else if ltb limit air then 7 else 0) → used ≡ false
+        go true p q = absurd (omega (arith, zero))
+        go false p q = p
+
+    left : (last packets : ℕ) → leb maxU64 last && ltb 0 packets ≡ false → 0 < packets → last < maxU64
+    left last packets h some = leb-false maxU64 last (rw (lt-ltb 0 packets some, and-true (leb maxU64 last)) at h)
+
+    pub number-left : (0 < sent → first < maxU64) × (0 < more → second < maxU64)
+    number-left = let w = neither (leb maxU64 first && ltb 0 sent) (leb maxU64 second && ltb 0 more) unused in (left first sent (w .0), left second more (w .1))
+
+    pub air-within : air ≤ limit
+    air-within = go (ltb limit air) refl
+      where
+        go : (y : Bool) → ltb limit air ≡ y → air ≤ limit
+        go true q = let seven : number ≡ 7 = both-send ∙ rw (unused, q) in absurd (omega (arith, zero))
+        go false q = ltb-false limit air q

@@ -40,7 +40,7 @@ reaction r = record { holding = r .holding; packet = r .packet; answer = r .answ
 
 -- The delivery of p, a request or a reply, to a station that holds h.
 pub record Reacts (p : Packet) (h : Holding) (last : RequestNumber) (sought : ℕ) (links : List Bool) (r : Change) : Type 0 where
-  pub reacted : (net : Network) → Holds net p h → LastRequest net p (last .0) sought → net .links ≡ links → reacts (reaction r) p net ≡ receive (p .receiver) (p .sender) (bodyOf p) net
+  pub reacted : (net : Network) → Holds net p h → LastRequest net p (last .0) sought → net .links ≡ links → reacts (reaction r) p net ≡ receive (p .receiver) (p .sender) (p .serial) (bodyOf p) net
   pub number-is : r .number ≡ last
   pub sought-is : r .sought ≡ sought
   pub drops-is : r .drops ≡ true

@@ -1,3 +1,4 @@
 pub mod Refusing
 pub mod Tracing
 pub mod Changing
+pub mod Cutting

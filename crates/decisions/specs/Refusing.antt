@@ -2,10 +2,11 @@
 use Prim.Native.Nat.{ℕ, _<_}
 use mathlib.Core.Path.{_≡_}
 use mathlib.Core.Logic.{_≢_}
-use mathlib.Core.Bool.{Bool, true, false}
-use lib.Dec.{leb}
+use mathlib.Core.Bool.{Bool, true, false, _&&_, _||_}
+use lib.Dec.{ltb, leb}
 use lib.ListN.{length}
-use Rattle.base.specs.Numbers.{maxU32}
+use Rattle.base.specs.Choice.{if_then_else_}
+use Rattle.base.specs.Numbers.{maxU32, maxU64}
 use Rattle.base.specs.Results.{refused}
 use Rattle.model.specs.Memory.{Network, linkUp, requestNumberAt, isActive, memoryInRange}
 use Rattle.model.specs.Calls.{Call, Open, Up, Down, Solicit, GiveUp, Expire, Deliver, Lose, Duplicate}
@@ -22,7 +23,14 @@ pub record Seen (net : Network) (kind a b n count : ℕ) (linked active : Bool) 
   pub activity : kind < 6 → a < n → isActive net a ≡ active
   pub number : kind < 6 → a < n → requestNumberAt net a ≡ last
 
--- No test of a call but that for 7 turns it down.
+-- 13, then 7, where two stations with these last serial numbers send so many packets each, and so many are in the air then; 0 if neither is given.
+unfoldable pub sendingRefusal : (limit air first sent second more : ℕ) → ℕ
+sendingRefusal limit air first sent second more =
+    if leb maxU64 first && ltb 0 sent || leb maxU64 second && ltb 0 more then 13
+    else if ltb limit air then 7
+    else 0
+
+-- No test of a call but those for 13 and 7 turns it down.
 unfoldable pub Passes : Call → Network → Type 0
 Passes (Open n start) net = ⊥
 Passes (Up a b) net = (notPair net a b ≡ false) × (linkUp net a b ≡ false)
@@ -34,7 +42,7 @@ Passes (Deliver k) net = notPacket net k ≡ false
 Passes (Lose k) net = notPacket net k ≡ false
 Passes (Duplicate k) net = notPacket net k ≡ false
 
--- The first number but 7 that turns an event down is r, or r is 0 and none does.
+-- The first number but 13 and 7 that turns an event down is r, or r is 0 and none does.
 unfoldable pub Tests : Network → Event → ℕ → Type 0
 Tests net (calls c) r = (r ≢ 0 → step c net ≡ refused r) × (r ≡ 0 → Passes c net)
 Tests net (traces a t) r = (r ≢ 0 → trace net a t ≡ traced r 0) × (r ≡ 0 → notPair net a t ≡ false)

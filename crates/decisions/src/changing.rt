@@ -5,11 +5,14 @@ ghost use mathlib.Core.Bool.{true, false};
 ghost use Prim.Native.Nat.{_+_, _%_, _<_};
 ghost use lib.Dec.{eqb};
 ghost use Rattle.base.specs.Choice.{if_then_else_};
-ghost use Rattle.base.specs.Numbers.{maxU32};
+ghost use Rattle.base.specs.Numbers.{maxU32, maxU64};
+ghost use Rattle.model.specs.Calls.{countOn};
+ghost use Rattle.network.specs.View.{numbered};
 ghost use Rattle.station.specs.Replying.{Ready};
 ghost use Rattle.decisions.specs.Changing.{classOf, Solicits, Reacts, Loses, Doubles};
 use network::Packet;
 use network::RequestNumber;
+use network::packets::numbered;
 use network::packets::request;
 use station::Holding;
 use station::receiving::react;
@@ -183,4 +186,26 @@ pub fn told(kind: u8, sent: u8) -> u8
         return 0;
     }
     sent
+}
+
+// The last serial number of a station that sends so many packets: one number for all of them, none where there is none.
+pub fn count_on(serial: u64, sent: u8) -> u64
+    requires { ⌜ (0 < sent → serial < maxU64) ⌝ }
+    ensures { λ r. ⌜ r ≡ countOn serial sent ⌝ }
+{
+    if sent == 0 {
+        return serial;
+    }
+    serial + 1
+}
+
+// The packet as it is sent: with this serial number, but a duplicate keeps its own.
+pub fn outgoing(kind: u8, p: Packet, serial: u64) -> Packet
+    ensures own { λ r. ⌜ (kind ≡ 8 → r ≡ p) ⌝ }
+    ensures numbered { λ r. ⌜ (kind ≢ 8 → r ≡ numbered p serial) ⌝ }
+{
+    if kind == 8 {
+        return p;
+    }
+    numbered(p, serial)
 }

@@ -5,9 +5,10 @@ ghost use Prim.Native.Nat.{_+_, _^_, _<_};
 ghost use lib.Dec.{eqb};
 ghost use Rattle.base.specs.Choice.{if_then_else_};
 ghost use Rattle.base.specs.Lists.{someIn};
-ghost use Rattle.model.specs.Memory.{names, without};
+ghost use Rattle.model.specs.Memory.{without};
 ghost use Rattle.model.specs.Calls.{bit, empties, errorOutcome};
 ghost use Rattle.rows.specs.View.{rowOf, NamesOnce};
+ghost use Rattle.decisions.specs.Cutting.{leavesBy, DownCuts, ErrorCuts};
 use network::Packet;
 use network::masks::bit;
 use network::masks::marked;
@@ -16,46 +17,56 @@ use rows::Row;
 use rows::loss_of;
 use rows::without_station;
 
-// Two stations, and the masks of the destinations for which the first loses the second, and the second the first.
+// Two stations, and the masks of the destinations for which the first loses the second, and the second the first: whatever the entry's
+// serial number, or where it is at most this.
 pub struct Cut {
+    pub serial: u64,
     pub mask: u16,
     pub others: u16,
     pub first: u8,
     pub second: u8,
+    pub all: bool,
 }
 
 // Which rows Down, or the delivery of the error p, cuts.
 pub fn cut_of(kind: u8, a: u8, b: u8, p: Packet) -> Cut
-    ensures down { λ r. ⌜ (kind ≡ 2 → (r .first ≡ a) × (r .second ≡ b) × (r .mask ≡ 65_535) × (r .others ≡ 65_535)) ⌝ }
-    ensures error { λ r. ⌜ (kind ≡ 6 → (r .first ≡ p .receiver) × (r .second ≡ p .sender) × (r .mask ≡ p .mask) × (r .others ≡ 0)) ⌝ }
+    ensures down { λ r. ⌜ (kind ≡ 2 → DownCuts a b r) ⌝ }
+    ensures error { λ r. ⌜ (kind ≡ 6 → ErrorCuts p r) ⌝ }
 {
     let i = p.receiver;
     let j = p.sender;
     let mask = p.mask;
+    let serial = p.serial;
     if kind == 2 {
         return Cut {
+            serial: 0,
             mask: 65535,
             others: 65535,
             first: a,
             second: b,
+            all: true,
         };
     }
     Cut {
+        serial: serial,
         mask: mask,
         others: 0,
         first: i,
         second: j,
+        all: false,
     }
 }
 
 // What a row for t loses with j.
-fn masked_loss(row: Row, j: u8, mask: u16, t: u8) -> Loss
+fn masked_loss(row: Row, cut: Cut, j: u8, mask: u16, t: u8) -> Loss
     requires { ⌜ NamesOnce row × (t < 16) ⌝ }
-    ensures removed { λ r. ⌜ r .removed ≡ bit mask t && someIn (names j) (rowOf row) ⌝ }
-    ensures emptied { λ r. ⌜ r .emptied ≡ bit mask t && empties (names j) (rowOf row) ⌝ }
+    ensures removed { λ r. ⌜ r .removed ≡ bit mask t && someIn (leavesBy cut j) (rowOf row) ⌝ }
+    ensures emptied { λ r. ⌜ r .emptied ≡ bit mask t && empties (leavesBy cut j) (rowOf row) ⌝ }
 {
+    let all = cut.all;
+    let serial = cut.serial;
     if bit(mask, t) {
-        return loss_of(row, j);
+        return loss_of(row, j, all, serial);
     }
     Loss {
         removed: false,
@@ -64,12 +75,14 @@ fn masked_loss(row: Row, j: u8, mask: u16, t: u8) -> Loss
 }
 
 // The row for t after it.
-pub fn cut_row(row: Row, j: u8, mask: u16, t: u8) -> Row
+pub fn cut_row(row: Row, cut: Cut, j: u8, mask: u16, t: u8) -> Row
     requires { ⌜ NamesOnce row × (t < 16) ⌝ }
-    ensures { λ r. ⌜ rowOf r ≡ (if bit mask t then without (names j) (rowOf row) else rowOf row) ⌝ }
+    ensures { λ r. ⌜ rowOf r ≡ (if bit mask t then without (leavesBy cut j) (rowOf row) else rowOf row) ⌝ }
 {
+    let all = cut.all;
+    let serial = cut.serial;
     if bit(mask, t) {
-        return without_station(row, j);
+        return without_station(row, j, all, serial);
     }
     row
 }
@@ -84,10 +97,10 @@ pub struct Losses {
 // The same with the rows of the two for t.
 pub fn with_rows(losses: Losses, cut: Cut, t: u8, row: Row, other: Row) -> Losses
     requires { ⌜ NamesOnce row × NamesOnce other × (t < 16) × (losses .emptied < 2 ^ t) × (losses .others < 2 ^ t) ⌝ }
-    ensures emptied { λ r. ⌜ r .emptied ≡ losses .emptied + (if bit (cut .mask) t && empties (names (cut .second)) (rowOf row) then 2 ^ t else 0) ⌝ }
-    ensures others { λ r. ⌜ r .others ≡ losses .others + (if bit (cut .others) t && empties (names (cut .first)) (rowOf other) then 2 ^ t else 0) ⌝ }
-    ensures removed { λ r. ⌜ r .removed ≡ losses .removed || bit (cut .mask) t && someIn (names (cut .second)) (rowOf row)
-        || bit (cut .others) t && someIn (names (cut .first)) (rowOf other) ⌝ }
+    ensures emptied { λ r. ⌜ r .emptied ≡ losses .emptied + (if bit (cut .mask) t && empties (leavesBy cut (cut .second)) (rowOf row) then 2 ^ t else 0) ⌝ }
+    ensures others { λ r. ⌜ r .others ≡ losses .others + (if bit (cut .others) t && empties (leavesBy cut (cut .first)) (rowOf other) then 2 ^ t else 0) ⌝ }
+    ensures removed { λ r. ⌜ r .removed ≡ losses .removed || bit (cut .mask) t && someIn (leavesBy cut (cut .second)) (rowOf row)
+        || bit (cut .others) t && someIn (leavesBy cut (cut .first)) (rowOf other) ⌝ }
 {
     let emptied = losses.emptied;
     let others = losses.others;
@@ -96,8 +109,8 @@ pub fn with_rows(losses: Losses, cut: Cut, t: u8, row: Row, other: Row) -> Losse
     let j = cut.second;
     let mine = cut.mask;
     let theirs = cut.others;
-    let first = masked_loss(row, j, mine, t);
-    let second = masked_loss(other, i, theirs, t);
+    let first = masked_loss(row, cut, j, mine, t);
+    let second = masked_loss(other, cut, i, theirs, t);
     Losses {
         emptied: marked(emptied, t, first.emptied),
         others: marked(others, t, second.emptied),

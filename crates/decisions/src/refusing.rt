@@ -1,24 +1,43 @@
 // Which number turns an event down (01, "Numbers for calls turned down").
 ghost use mathlib.Core.Path.{_≡_};
-ghost use mathlib.Core.Bool.{_||_};
-ghost use Prim.Native.Nat.{_+_, _^_, _<_};
+ghost use mathlib.Core.Bool.{_&&_, _||_};
 ghost use lib.Dec.{ltb, leb, eqb};
 ghost use Rattle.base.specs.Choice.{if_then_else_};
-ghost use Rattle.base.specs.Numbers.{maxU32};
+ghost use Rattle.base.specs.Numbers.{maxU32, maxU64};
 ghost use Rattle.model.specs.Memory.{Network};
 ghost use Rattle.model.specs.Events.{eventOf};
-ghost use Rattle.decisions.specs.Refusing.{Seen, Tests};
+ghost use Rattle.decisions.specs.Refusing.{Seen, Tests, sendingRefusal};
 use network::RequestNumber;
 use validation::not_event;
 use validation::not_pair;
 use validation::not_station;
 
-// 7: whether more than `limit` packets are in the air once so many are sent.
-pub fn full(limit: u8, left: u8, sent: u8) -> bool
-    requires { ⌜ left + sent < 2 ^ 8 ⌝ }
-    ensures { λ r. ⌜ r ≡ ltb limit (left + sent) ⌝ }
+// Whether a station that sends so many packets has used up its serial numbers: its last one is this.
+fn used_up(serial: u64, sent: u8) -> bool
+    ensures { λ r. ⌜ r ≡ leb maxU64 serial && ltb 0 sent ⌝ }
 {
-    limit < left + sent
+    (u64::MAX <= serial) & (0 < sent)
+}
+
+// 13, then 7: the number that turns a call down after which so many packets are in the air, 0 if neither does. Two stations send; of each
+// its last serial number and how many packets it sends.
+pub fn sending_refusal(
+    limit: u8,
+    air: u8,
+    first: u64,
+    sent: u8,
+    second: u64,
+    more: u8,
+) -> u32
+    ensures { λ r. ⌜ r ≡ sendingRefusal limit air first sent second more ⌝ }
+{
+    if used_up(first, sent) | used_up(second, more) {
+        return 13;
+    }
+    if limit < air {
+        return 7;
+    }
+    0
 }
 
 // Expire and Trace: 2.
@@ -84,7 +103,7 @@ fn packet_refusal(count: u8, k: u8) -> u32
     0
 }
 
-// The first number but 7 that turns an event down, 0 if none does: by the number of stations and of packets, and by what station a
+// The first number but 13 and 7 that turns an event down, 0 if none does: by the number of stations and of packets, and by what station a
 // has: its link with b, whether it is active, and its last request number.
 pub fn refusal(
     kind: u8,

@@ -11,7 +11,7 @@ use borrow.Author.Tests.{lt-leb}
 use Rattle.base.specs.Results.{Result, refused, accepted}
 use Rattle.base.proofs.Results.{refuse-holds, refuse-passes, not-accepted, same-accepted, same-refused, not-turned-down}
 use Rattle.model.specs.Memory.{Body, request, reply, error, other, Packet, Network, packetAt, airLimit, setAir}
-use Rattle.model.specs.Calls.{Deliver, Lose, Effect, effect, limited, notPacket, removePacket, deliver, step}
+use Rattle.model.specs.Calls.{Deliver, Lose, Effect, effect, usedUp, limited, notPacket, removePacket, deliver, step}
 use Rattle.model.specs.Walks.{Reached}
 use Rattle.model.proofs.Range.{Invariant, invariant-in-range, in-range-invariant}
 use Rattle.model.proofs.Refusals.{deliver-limited, lose-accepted}
@@ -84,24 +84,25 @@ module _ (net : Network) (kept : Invariant ⊥ net) (h : 0 < length (net .air)) 
   pub lose-first : step (Lose 0) net ≡ accepted (effect 0 0 (removePacket 0 net))
   lose-first = lose-accepted net (invariant-in-range net kept) 0 there
 
+  stepped : step (Deliver 0) net ≡ limited net (deliver 0 net)
+  stepped = deliver-limited net (invariant-in-range net kept) 0 there
+
   -- Deliver is accepted, or turned down with a number for which the packet is lost.
   pub delivers-or-loses : (number : ℕ) → step (Deliver 0) net ≡ refused number → losesPacket number ≡ true
   unfolding limited losesPacket
-  delivers-or-loses number e = go (ltb airLimit (length (deliver 0 net .net .air))) refl
+  delivers-or-loses number e = go (usedUp net (deliver 0 net)) refl (ltb airLimit (length (deliver 0 net .net .air))) refl
     where
-      stepped : step (Deliver 0) net ≡ limited (deliver 0 net)
-      stepped = deliver-limited net (invariant-in-range net kept) 0 there
-
-      go : (b : Bool) → ltb airLimit (length (deliver 0 net .net .air)) ≡ b → losesPacket number ≡ true
-      go true q = ap losesPacket (same-refused (sym e ∙ stepped ∙ refuse-holds 7 _ _ q))
-      go false q = not-accepted (sym e ∙ stepped ∙ refuse-passes 7 _ _ q)
+      go : (x : Bool) → usedUp net (deliver 0 net) ≡ x → (y : Bool) → ltb airLimit (length (deliver 0 net .net .air)) ≡ y → losesPacket number ≡ true
+      go true p y q = ap losesPacket (same-refused (sym e ∙ stepped ∙ refuse-holds 13 _ _ p))
+      go false p true q = ap losesPacket (same-refused (sym e ∙ stepped ∙ refuse-passes 13 _ _ p ∙ refuse-holds 7 _ _ q))
+      go false p false q = not-accepted (sym e ∙ stepped ∙ refuse-passes 13 _ _ p ∙ refuse-passes 7 _ _ q)
 
   delivered : (e : Effect) → step (Deliver 0) net ≡ accepted e → e ≡ deliver 0 net
   unfolding limited
-  delivered e accepts = let (passes, same) = not-turned-down 7 _ _ e (sym stepped ∙ accepts) in sym (same-accepted same)
-    where
-      stepped : step (Deliver 0) net ≡ limited (deliver 0 net)
-      stepped = deliver-limited net (invariant-in-range net kept) 0 there
+  delivered e accepts =
+      let (unused, rest) = not-turned-down 13 _ _ e (sym stepped ∙ accepts) in
+      let (passes, same) = not-turned-down 7 _ _ e rest in
+      sym (same-accepted same)
 
   -- One of the two turns is made.
   some-turn : (turn : Turn) × (left : Network) × TurnLeaves turn net left

@@ -17,9 +17,9 @@ use Rattle.base.proofs.Loops.{below-length}
 use Rattle.label.specs.declared.Label.{Label}
 use Rattle.label.specs.Label.{above, Outcome, took, gave}
 use Rattle.model.specs.Memory.{Successor, Row, Record, Request, Reply, Body, request, reply, error, other, Packet, Network}
-use Rattle.model.specs.Memory.{place, zeroRecord, zeroPacket, linkIn, rowIn, labelAt, rowAt, recordAt, linkUp, packetAt, names, without, under, put}
-use Rattle.model.specs.Memory.{setLabels, setRows, setRecords, setActives, setAir}
-use Rattle.model.specs.Calls.{Effect, effect, packet, send, sending, neighbours, copies, errors, maskOf, takeOut, empties, emptied, bit, onError, removePacket, receive, deliver}
+use Rattle.model.specs.Memory.{place, zeroRecord, zeroPacket, linkIn, rowIn, labelAt, rowAt, recordAt, linkUp, packetAt, without, under, put}
+use Rattle.model.specs.Memory.{setLabels, setRows, setRecords, setActives, setAir, setSerials}
+use Rattle.model.specs.Calls.{Effect, effect, packet, append, nextSerial, send, sending, neighbours, copies, errors, maskOf, takeOut, empties, emptied, bit, withdrawn, onError, removePacket, receive, deliver}
 use Rattle.model.specs.Calls.{recorded, markPassed, replyTo, resets, withNumber, atDestination, canReply, onward, engage, onRequest}
 use Rattle.model.specs.Calls.{matches, adopt, settle, passesOn, passOn, onOutcome, onReply}
 use Rattle.model.proofs.Rows.{takeOut-either, takeOut-at}
@@ -49,7 +49,7 @@ module _ (ids : List RequestId) where
   of-copies : (net : Network) (a : ℕ) (b : Body) → BodyOf ids b → AirOf ids (copies net a b)
   unfolding copies
   of-copies net a b o p m =
-      let (x, k, e) = Memᴰ·of-map (λ x. packet a x b) (neighbours net a) m in
+      let (x, k, e) = Memᴰ·of-map (λ x. packet a x b (nextSerial net a)) (neighbours net a) m in
       subst (λ z. BodyOf ids (z .body)) e o
 
 -- Of n stations, the effect e leaves a potential of at most this, and packets of these requests alone.
@@ -74,10 +74,10 @@ credits-one : (n : ℕ) (p : Packet) → airCredits n (p ∷ []) ≡ bodyCredit 
 unfolding airCredits packetCredit sumIn
 credits-one n p = omega arith
 
-credits-each : (n a : ℕ) (b : Body) → bodyCredit n b ≡ 1 → (l : List ℕ) → airCredits n (map (λ x. packet a x b) l) ≡ length l
+credits-each : (n a : ℕ) (b : Body) (serial : ℕ) → bodyCredit n b ≡ 1 → (l : List ℕ) → airCredits n (map (λ x. packet a x b serial) l) ≡ length l
 unfolding airCredits packetCredit sumIn
-credits-each n a b e [] = refl
-credits-each n a b e (x ∷ l) = omega (arith, credits-each n a b e l)
+credits-each n a b serial e [] = refl
+credits-each n a b serial e (x ∷ l) = omega (arith, credits-each n a b serial e l)
 
 -- No station is its own neighbour, so it has n − 1 at most.
 no-own-link : (K : List Bool) (a : ℕ) → linkIn K a a ≡ false
@@ -97,12 +97,12 @@ below-but-one (suc n) t a ha e = rw (length-append (below n t)) (go (trichotomy 
 credits-copies : (net : Network) (a : ℕ) (b : Body) → bodyCredit (net .n) b ≡ 1 → a < net .n → airCredits (net .n) (copies net a b) ≤ net .n - 1
 unfolding copies neighbours
 credits-copies net a b e ha =
-    omega (arith, credits-each (net .n) a b e (below (net .n) (linkUp net a)), below-but-one (net .n) (linkUp net a) a ha (no-own-link (net .links) a))
+    omega (arith, credits-each (net .n) a b (nextSerial net a) e (below (net .n) (linkUp net a)), below-but-one (net .n) (linkUp net a) a ha (no-own-link (net .links) a))
 
 module _ (net : Network) (ids : List RequestId) (k : ℕ) (o : AirOf ids (net .air)) where
-  spent-sending : (l : List Packet) → AirOf ids l → Spent (net .n) ids (potential (net .n) ids net + airCredits (net .n) l) (sending k l net)
-  unfolding sending send setAir potential
-  spent-sending l o′ = record {
+  spent-sending : (a : ℕ) (l : List Packet) → AirOf ids l → Spent (net .n) ids (potential (net .n) ids net + airCredits (net .n) l) (sending k a l net)
+  unfolding sending send append setAir setSerials potential
+  spent-sending a l o′ = record {
     size = refl;
     left = omega (arith, credits-append (net .n) (net .air) l);
     air = of-append ids (net .air) l o o′;
@@ -115,18 +115,19 @@ module _ (net : Network) (ids : List RequestId) (k : ℕ) (o : AirOf ids (net .a
   spent-reply : (i x s number t : ℕ) → i < net .n → place i s < length (net .records)
       → recordAt net i s .number ≡ number → recordAt net i s .passed ≡ false → List·Memᴰ (record { source = s; number = number }) ids
       → Spent (net .n) ids (potential (net .n) ids net) (replyTo k i x s number t net)
-  unfolding replyTo sending send setAir setRecords markPassed potential bodyCredit
-  spent-reply i x s number t hi hl e p m =
+  unfolding replyTo sending send append setAir setRecords setSerials markPassed potential bodyCredit
+  spent-reply i x s number t hi hl e unpassed m =
       let n = net .n in
       let old = recordAt net i s in
       let marked = markPassed old in
       let v : Reply = record { source = s; number = number; destination = t; label = labelAt net i t } in
+      let p = packet i x (reply v) (nextSerial net i) in
       let fall = credits-set n ids (net .records) i s marked (credit-marked n old marked refl refl) number n m hi hl
-      (omega (arith, credit-passed n number marked (omega arith) refl, credit-unpassed n number old e p)) in
+      (omega (arith, credit-passed n number marked (omega arith) refl, credit-unpassed n number old e unpassed)) in
       record {
         size = refl;
-        left = omega (arith, credits-append n (net .air) (packet i x (reply v) ∷ []), credits-one n (packet i x (reply v)));
-        air = of-append ids (net .air) (packet i x (reply v) ∷ []) o (of-one ids (packet i x (reply v)) m);
+        left = omega (arith, credits-append n (net .air) (p ∷ []), credits-one n p);
+        air = of-append ids (net .air) (p ∷ []) o (of-one ids p m);
       }
 
 -- A request R from j, delivered to i.
@@ -158,7 +159,7 @@ module _ (ids : List RequestId) (i j : ℕ) (R : Request) (m : List·Memᴰ (rec
       (λ e. spent-le (spent-destination net g) (omega arith))
       (λ e. choose (Spent (net .n) ids (potential (net .n) ids net + (net .n - 1))) (canReply own (rowAt net i (R .destination)) R)
       (λ q. spent-le (spent-answer net g j (R .destination)) (omega arith))
-      (λ q. spent-le (spent-sending net ids 103 (g .air) _ (of-copies ids net i (request (onward own R)) m))
+      (λ q. spent-le (spent-sending net ids 103 (g .air) i _ (of-copies ids net i (request (onward own R)) m))
       (omega (arith, credits-copies net i (request (onward own R)) refl (g .here)))))
 
   spent-request : (net : Network) → AirOf ids (net .air) → i < net .n → place i (R .source) < length (net .records)
@@ -186,7 +187,7 @@ module _ (ids : List RequestId) (i j : ℕ) (R : Request) (m : List·Memᴰ (rec
       })) (omega arith))
 
 -- A reply v from j, delivered to i.
-module _ (ids : List RequestId) (i j : ℕ) (v : Reply) (m : List·Memᴰ (record { source = v .source; number = v .number }) ids) where
+module _ (ids : List RequestId) (i j serial : ℕ) (v : Reply) (m : List·Memᴰ (record { source = v .source; number = v .number }) ids) where
   -- A reply that is passed on is of the request that i's record is of.
   spent-passed : (net : Network) (k : ℕ) → AirOf ids (net .air) → i < net .n → place i (v .source) < length (net .records)
       → (i ≢ v .source → recordAt net i (v .source) .number ≡ v .number) → Spent (net .n) ids (potential (net .n) ids net) (passOn k i v net)
@@ -212,16 +213,16 @@ module _ (ids : List RequestId) (i j : ℕ) (v : Reply) (m : List·Memᴰ (recor
     abbrev Within : Effect → Type 0
     Within e = Spent (net .n) ids (potential (net .n) ids net + (net .n - 1)) e
 
-    spent-taken : (g : Label) → (i ≢ v .source → recordAt net i (v .source) .number ≡ v .number) → Within (passOn 115 i v (settle i v (adopt i j v g net)))
+    spent-taken : (g : Label) → (i ≢ v .source → recordAt net i (v .source) .number ≡ v .number) → Within (passOn 115 i v (settle i v (adopt i j serial v g net)))
     unfolding settle adopt setActives setRows setLabels potential
     spent-taken g same =
-        let row = put (record { station = j; label = v .label }) (under g (rowAt net i (v .destination))) in
+        let row = put (record { station = j; label = v .label; serial = serial }) (under g (rowAt net i (v .destination))) in
         let more = rows-set (net .n) (net .rows) i (v .destination) row hi ht high in
         choose (λ z. Within (passOn 115 i v z)) (eqb i (v .source))
         (λ e. spent-le (spent-passed _ 115 o hi hl same) (omega arith))
         (λ e. spent-le (spent-passed _ 115 o hi hl same) (omega arith))
 
-    spent-outcome : (out : Outcome) → (i ≢ v .source → recordAt net i (v .source) .number ≡ v .number) → Within (onOutcome i j v out net)
+    spent-outcome : (out : Outcome) → (i ≢ v .source → recordAt net i (v .source) .number ≡ v .number) → Within (onOutcome i j serial v out net)
     unfolding onOutcome
     spent-outcome (gave k) same = spent-le (spent-passed net k o hi hl same) (omega arith)
     spent-outcome (took g) same = spent-taken g same
@@ -232,7 +233,7 @@ module _ (ids : List RequestId) (i j : ℕ) (v : Reply) (m : List·Memᴰ (recor
         let kept = recordAt net i (v .source) in
         eqb-true (kept .number) (v .number) (both (eqb (kept .number) (v .number)) (eqb (kept .destination) (v .destination)) (rw (ne-eqb i (v .source) q) at e) .0)
 
-    spent-received : Within (onReply i j v net)
+    spent-received : Within (onReply i j serial v net)
     unfolding onReply
     spent-received =
         let t = v .destination in
@@ -286,37 +287,38 @@ module _ (masked : ℕ → Bool) (leaves : Successor → Bool) (i : ℕ) (rows :
         (rw there (omega (arith, row-empty n (without leaves row) (w .1), row-filled n row (was-filled row (w .0))))) in
         omega arith
 
-spent-error : (net : Network) (ids : List RequestId) (i j mask : ℕ) → AirOf ids (net .air) → i < net .n → net .n ≤ 16 → length (net .rows) ≡ 256
-    → Spent (net .n) ids (potential (net .n) ids net) (onError i j mask net)
+spent-error : (net : Network) (ids : List RequestId) (i j serial mask : ℕ) → AirOf ids (net .air) → i < net .n → net .n ≤ 16 → length (net .rows) ≡ 256
+    → Spent (net .n) ids (potential (net .n) ids net) (onError i j serial mask net)
 unfolding onError errors setRows potential bodyCredit
-spent-error net ids i j mask o hi high len =
+spent-error net ids i j serial mask o hi high len =
     let n = net .n in
     let R = net .rows in
-    let R′ = takeOut (bit mask) (names j) i n R in
-    let gone = emptied (bit mask) (names j) i n R in
+    let leaves = withdrawn j serial in
+    let R′ = takeOut (bit mask) leaves i n R in
+    let gone = emptied (bit mask) leaves i n R in
     let next = setRows R′ net in
-    spent-le (spent-sending next ids _ o (errors net i gone) (of-errors gone))
+    spent-le (spent-sending next ids _ o i (errors net i gone) (of-errors gone))
     (choose (λ (z : List Packet). airCredits n (net .air) + rowCredits n R′ + recordCredits n ids (net .records) + airCredits n z ≤ potential n ids net) (eqb gone 0)
-    (λ e. omega (arith, credits-none n, rows-kept (bit mask) (names j) i R n hi high len))
-    (λ e. omega (arith, credits-copies net i (error gone) refl hi, rows-emptied (bit mask) (names j) i R n hi high len (eqb-false gone 0 e))))
+    (λ e. omega (arith, credits-none n, rows-kept (bit mask) leaves i R n hi high len))
+    (λ e. omega (arith, credits-copies net i (error gone) refl hi, rows-emptied (bit mask) leaves i R n hi high len (eqb-false gone 0 e))))
   where
     of-errors : (gone : ℕ) → AirOf ids (errors net i gone)
     of-errors gone = choose (AirOf ids) (eqb gone 0) (λ e p k. absurd (List·Memᴰ·not-nil k)) (λ e. of-copies ids net i (error gone) tt)
 
 -- A packet's body, delivered: its credit is spent, and 1 of it for good.
-spent-body : {Reachable : Type 0} (net : Network) (ids : List RequestId) (i j : ℕ) (b : Body) (most : ℕ) → WellFormed Reachable net → AirOf ids (net .air) → i < net .n → BodyOk (net .n) b
-    → BodyOf ids b → potential (net .n) ids net + bodyCredit (net .n) b ≤ most + 1 → Spent (net .n) ids most (receive i j b net)
+spent-body : {Reachable : Type 0} (net : Network) (ids : List RequestId) (i j serial : ℕ) (b : Body) (most : ℕ) → WellFormed Reachable net → AirOf ids (net .air) → i < net .n → BodyOk (net .n) b
+    → BodyOf ids b → potential (net .n) ids net + bodyCredit (net .n) b ≤ most + 1 → Spent (net .n) ids most (receive i j serial b net)
 unfolding receive bodyCredit
-spent-body net ids i j (request R) most ok o hi h m t =
+spent-body net ids i j serial (request R) most ok o hi h m t =
     let at = place-below i (R .source) (net .n) hi (h .source-below) (ok .high) in
     spent-le (spent-request ids i j R m net o hi (omega (arith, ok .records .records-length))) (omega arith)
-spent-body net ids i j (reply v) most ok o hi h m t =
+spent-body net ids i j serial (reply v) most ok o hi h m t =
     let at = place-below i (v .source) (net .n) hi (h .source-below) (ok .high) in
     let low = ok .low in
-    spent-le (spent-received ids i j v m net o (ok .high) hi (h .destination-below) (omega (arith, ok .records .records-length))) (omega arith)
-spent-body net ids i j (error mask) most ok o hi h m t =
-    spent-le (spent-error net ids i j mask o hi (ok .high) (ok .tables .rows-length)) (omega arith)
-spent-body net ids i j (other kind) most ok o hi h m t = absurd h
+    spent-le (spent-received ids i j serial v m net o (ok .high) hi (h .destination-below) (omega (arith, ok .records .records-length))) (omega arith)
+spent-body net ids i j serial (error mask) most ok o hi h m t =
+    spent-le (spent-error net ids i j serial mask o hi (ok .high) (ok .tables .rows-length)) (omega arith)
+spent-body net ids i j serial (other kind) most ok o hi h m t = absurd h
 
 -- Packet 0 leaves the air.
 credits-first : (n : ℕ) (air : List Packet) → 0 < length air → airCredits n air ≡ bodyCredit n (getD air 0 zeroPacket .body) + airCredits n (removeAt 0 air)
@@ -340,5 +342,5 @@ module _ {Reachable : Type 0} (net : Network) (ok : WellFormed Reachable net) (i
       let p = packetAt net 0 in
       let m = mem-at (net .air) 0 zeroPacket h in
       let c = ok .air p m in
-      spent-body (removePacket 0 net) ids (p .receiver) (p .sender) (p .body) most (well-formed-remove net ok 0) air-removed
+      spent-body (removePacket 0 net) ids (p .receiver) (p .sender) (p .serial) (p .body) most (well-formed-remove net ok 0) air-removed
       (c .receiver-below) (c .body) (o p m) (omega (arith, potential-first))

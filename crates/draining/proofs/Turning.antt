@@ -1,9 +1,10 @@
 -- Laws of turns.
 use Prim.Native.Nat.{ℕ, suc, _+_}
 use mathlib.Core.Path.{_≡_, refl, sym, ap, ap₂, subst, _∙_}
-use mathlib.Core.Bool.{Bool, true, false}
+use mathlib.Core.Bool.{Bool, true, false, _||_}
 use mathlib.Core.List.{List, [], _∷_, _++_}
 use lib.ListN.{length}
+use lib.Dec.{eqb}
 use native.Mathlib.Omega.{arith}
 use borrow.Author.Tests.{eqb-true}
 use Rattle.base.specs.Results.{refused, isRefusal}
@@ -51,11 +52,12 @@ turns-run (loss ∷ turns) before left (next, (number, e, refuses, lost, accepts
 -- No packet is lost for an answer that is no refusal.
 pub kept-accepted : (answer : ℕ) → isRefusal answer ≡ false → losesPacket answer ≡ false
 unfolding losesPacket isRefusal
-kept-accepted answer h = go (losesPacket answer) refl
+kept-accepted answer h = go (eqb answer 7) refl (eqb answer 13) refl
   where
-    go : (b : Bool) → losesPacket answer ≡ b → b ≡ false
-    go true e = clash (ap isRefusal (eqb-true answer 7 e)) h
-    go false e = refl
+    go : (x : Bool) → eqb answer 7 ≡ x → (y : Bool) → eqb answer 13 ≡ y → x || y ≡ false
+    go true e y f = clash (ap isRefusal (eqb-true answer 7 e)) h
+    go false e true f = clash (ap isRefusal (eqb-true answer 13 f)) h
+    go false e false f = refl
 
 -- No turn is made with an empty air.
 module _ (net : Network) (empty : net .air ≡ []) where

@@ -1,7 +1,7 @@
 -- Draining the air (02, F-3, "Run until quiet").
 use Prim.Native.Nat.{ℕ, suc, _+_, _-_, _*_, _≤_}
 use mathlib.Core.Path.{_≡_}
-use mathlib.Core.Bool.{Bool, true}
+use mathlib.Core.Bool.{Bool, true, _||_}
 use mathlib.Core.List.{List, [], _∷_}
 use lib.ListN.{length}
 use lib.Dec.{eqb}
@@ -14,9 +14,9 @@ use Rattle.model.specs.Walks.{Reached}
 pub data Turn : Type 0 where
   delivery loss : Turn
 
--- "loses it where Deliver gives 7": the numbers of Deliver for which packet 0 is lost.
+-- "loses it where Deliver gives 7", "a packet answered 13 just as one answered 7" (02, F-4): the numbers of Deliver for which packet 0 is lost.
 unfoldable pub losesPacket : ℕ → Bool
-losesPacket number = eqb number 7
+losesPacket number = eqb number 7 || eqb number 13
 
 -- "delivers packet 0 .., and loses it where Deliver gives 7": such a turn on the network before it leaves this one.
 abbrev pub TurnLeaves : Turn → (before left : Network) → Type 0

@@ -19,7 +19,7 @@ pub struct Event {
 pub fn loses(answer: u32) -> bool
     ensures { λ r. ⌜ (r ≡ losesPacket answer) × AllDrain ⌝ }
 {
-    answer == 7
+    (answer == 7) | (answer == 13)
 }
 
 // What follows on this answer: packet 0 is lost, or delivered.

@@ -1,27 +1,27 @@
 -- What was written as an entry reads back as it: labels, entries of rows, rows, records, stations, links and packets.
-use Prim.Native.Nat.{ℕ, _+_, _*_, _≤_}
-use mathlib.Core.Path.{_≡_, refl, sym, ap, ap₂, _∙_}
+use Prim.Native.Nat.{ℕ, _+_, _*_, _≤_, _<_}
+use mathlib.Core.Path.{_≡_, refl, sym, ap, _∙_}
 use mathlib.Core.Bool.{Bool, true, false}
 use mathlib.Core.List.{List}
 use lib.ListN.{length, getD, List·getD-eq-default, List·getD-map}
 use lib.Dec.{ltb}
 use mir.Val.{boolByte}
 use native.Mathlib.Omega.{arith}
-use borrow.Author.Tests.{ne-eqb}
-use Rattle.base.proofs.Booleans.{choose}
+use borrow.Author.Tests.{ltb-true, ltb-false, ne-eqb}
+use Rattle.base.proofs.Booleans.{choose, Trichotomy, less, equal, more, trichotomy}
 use Rattle.base.specs.Lists.{tabulate}
-use Rattle.base.proofs.Loops.{tabulate-or, tabulate-part}
+use Rattle.base.proofs.Loops.{tabulate-same, tabulate-or, tabulate-part}
 use Rattle.label.specs.declared.Label.{Label}
-use Rattle.label.specs.Label.{label}
 use Rattle.codec.specs.Bytes.{byteAt}
 use Rattle.codec.specs.Fields.{values, Fits}
 use Rattle.codec.specs.Tables.{tableAt, padded, countedAt}
 use Rattle.codec.proofs.TableLaws.{Stands, counted-wide, counted-back}
 use Rattle.codec.proofs.FieldLaws.{written-wide, flag-back, flag-is, format-back, entry-back}
 use Rattle.model.specs.Memory.{Successor, Row, Record, Body, request, reply, error, other, Packet, zeroLabel, zeroPacket, rowLimit, airLimit}
+use Rattle.rows.specs.declared.Successor as rows
 use Rattle.rows.specs.declared.Row as code
-use Rattle.rows.specs.View.{successor, entryOf, rowOf}
-use Rattle.rows.proofs.Bounds.{RowLengths}
+use Rattle.rows.specs.View.{successorOf, entryOf, rowOf, Written}
+use Rattle.rows.proofs.Bounds.{RowLengths, entry-past}
 use Rattle.network.specs.declared.RequestNumber.{RequestNumber}
 use Rattle.network.specs.declared.Record as network
 use Rattle.network.specs.declared.Packet as network-packet
@@ -31,7 +31,7 @@ use Rattle.network.specs.View.{recordOf, requestOf, replyOf, bodyOf, packetOf, 
 use Rattle.network.proofs.PacketLaws.{packetIn}
 use Rattle.layout.specs.Formats.{labelFormat, labelFrom, successorFormat, successorFrom, successorWide, zeroSuccessor, rowWide, recordFormat, recordFrom, Station, stationFormat, stationFrom, linkFormat, linkFrom, packetFormat, resetIn, packetFrom, packetWide, airWide, plainBody, plainOf, withBody, Known}
 use Rattle.layout.specs.declared.memory.Stations.{Stations}
-use Rattle.layout.specs.Entries.{recordIn, stationAt}
+use Rattle.layout.specs.Entries.{successorIn, recordIn, stationAt}
 use Rattle.layout.specs.Stored.{storedLabel, storedSuccessor, storedRow, storedRecord, storedStation, storedLink, storedFields, storedPacket, storedAir}
 use Rattle.layout.specs.Written.{labelBytes, successorBytes, rowBytes, recordBytes, stationBytes, linkBytes, packetBytes, airBytes}
 use Rattle.layout.specs.Fits.{RowFits, PacketFits}
@@ -47,16 +47,20 @@ packet-wide p = written-wide packetFormat (plainOf p)
 pub air-wide : (air : List Packet) → length (airBytes air) ≡ airWide
 air-wide air = counted-wide packetBytes _ packet-wide airLimit zeroPacket air
 
--- A record of the code is read as the model's.
+-- An entry of a row and a record of the code are read as the model's.
+pub successor-in : (e : rows.Successor) → successorOf e ≡ successorIn e
+unfolding successorOf
+successor-in e = refl
+
 pub record-in : (r : network.Record) → recordOf r ≡ recordIn r
 unfolding recordOf
 record-in r = refl
 
 -- What a station keeps, of tables of it.
-pub station-same : (kept : Stations) (i : ℕ) → record { number = getD (kept .numbers) i view.zeroNumber .0; sought = getD (kept .sought) i 0; active = getD (kept .active) i false } ≡ stationAt kept i
+pub station-same : (kept : Stations) (i : ℕ) → record { number = getD (kept .numbers) i view.zeroNumber .0; sought = getD (kept .sought) i 0; active = getD (kept .active) i false; serial = getD (kept .serials) i 0 } ≡ stationAt kept i
 station-same kept i =
     let number = sym (List·getD-map (λ (x : RequestNumber). x .0) (kept .numbers) i view.zeroNumber) in
-    λ j. record { number = number j; sought = getD (kept .sought) i 0; active = getD (kept .active) i false }
+    λ j. record { number = number j; sought = getD (kept .sought) i 0; active = getD (kept .active) i false; serial = getD (kept .serials) i 0 }
 
 -- Reading back.
 module _ (bytes : List ℕ) (at : ℕ) where
@@ -108,28 +112,48 @@ module _ (bytes : List ℕ) (at : ℕ) (p : Packet) (fits : PacketFits p) (h : S
       ap (λ (v : List ℕ). fieldsHaveMeaning (packetFrom v) (resetIn v)) (format-back packetFormat bytes at (plainOf p) (fits .0) h)
       ∙ ap (λ q. fieldsHaveMeaning q (boolByte (plainOf p .reset))) made ∙ plain-meant p (p .body) (fits .1)
 
--- A row whose labels and stations are those of the entries at a place.
-pub row-stored : (bytes : List ℕ) (at : ℕ) (row : code.Row) → row .labels ≡ tabulate rowLimit (λ j. storedSuccessor bytes (at + 1 + successorWide * j) .label)
-    → row .stations ≡ tabulate rowLimit (λ j. storedSuccessor bytes (at + 1 + successorWide * j) .station) → row .count ≡ byteAt bytes at → rowOf row ≡ storedRow bytes at
-unfolding rowOf entryOf storedRow countedAt padded tableAt zeroSuccessor zeroLabel
-row-stored bytes at row labels stations count = λ i. tabulate (count i) (λ k. same k i)
-  where
-    f : ℕ → Successor
-    f j = storedSuccessor bytes (at + 1 + successorWide * j)
+-- A row has zeros past its arrays.
+zero-past : (row : code.Row) → RowLengths row → (k : ℕ) → rowLimit ≤ k → entryOf row k ≡ zeroSuccessor
+unfolding entryOf zeroSuccessor zeroLabel
+zero-past row long k h = entry-past row long k h
 
-    same : (k : ℕ) → entryOf row k ≡ getD (tabulate rowLimit f) k zeroSuccessor
-    same k =
-        ap₂ successor
-        (ap (λ (l : List ℕ). getD l k 0) stations ∙ tabulate-part (λ (e : Successor). e .station) rowLimit f k zeroSuccessor)
-        (ap (λ (l : List Label). getD l k (label 0 0 0)) labels ∙ tabulate-part (λ (e : Successor). e .label) rowLimit f k zeroSuccessor)
+-- A row that a loop reads: its first k entries are those at a place.
+pub record RowRead (bytes : List ℕ) (at : ℕ) (row : code.Row) (k : ℕ) : Type 0 where
+  pub long : RowLengths row
+  pub entries : (j : ℕ) → j < k → entryOf row j ≡ storedSuccessor bytes (at + 1 + successorWide * j)
+
+module _ (bytes : List ℕ) (at : ℕ) (row : code.Row) where
+  pub read-none : RowLengths row → RowRead bytes at row 0
+  read-none long = record { long = long; entries = λ j h. absurd (omega arith) }
+
+  pub read-more : (k : ℕ) (next : code.Row) (e : Successor) → RowRead bytes at row k → Written row k e next → RowLengths next → e ≡ storedSuccessor bytes (at + 1 + successorWide * k)
+      → RowRead bytes at next (k + 1)
+  read-more k next e read w long here = record { long = long; entries = λ j h. go j (trichotomy j k) h }
+    where
+      go : (j : ℕ) → Trichotomy j k → j < k + 1 → entryOf next j ≡ storedSuccessor bytes (at + 1 + successorWide * j)
+      go j (less l) h = w .elsewhere j (λ q. omega arith) ∙ read .entries j l
+      go j (equal q) h = rw q (w .here ∙ here)
+      go j (more l) h = absurd (omega arith)
+
+  pub read-all : RowRead bytes at row rowLimit → tabulate (byteAt bytes at) (entryOf row) ≡ storedRow bytes at
+  unfolding storedRow countedAt padded tableAt
+  read-all read = tabulate-same (byteAt bytes at) (entryOf row) (λ k. getD (tabulate rowLimit f) k zeroSuccessor) (λ k h. same k)
+    where
+      f : ℕ → Successor
+      f j = storedSuccessor bytes (at + 1 + successorWide * j)
+
+      same : (k : ℕ) → entryOf row k ≡ getD (tabulate rowLimit f) k zeroSuccessor
+      same k =
+          choose (λ (z : Successor). entryOf row k ≡ z) (ltb k rowLimit)
+          (λ e. read .entries k (ltb-true k rowLimit e)) (λ e. zero-past row (read .long) k (ltb-false k rowLimit e))
+          ∙ sym (tabulate-or rowLimit f k zeroSuccessor)
 
 -- Past its places a row reads as zeros.
 pub row-past : (row : code.Row) → RowLengths row → (k : ℕ) → rowLimit ≤ k → getD (rowOf row) k zeroSuccessor ≡ zeroSuccessor
-unfolding rowOf entryOf zeroSuccessor zeroLabel
+unfolding rowOf
 row-past row long k h =
-    let none : entryOf row k ≡ zeroSuccessor =
-    rw (List·getD-eq-default (row .stations) 0 {n = k} (omega (arith, long .stations-length)), List·getD-eq-default (row .labels) (label 0 0 0) {n = k} (omega (arith, long .labels-length))) in
-    tabulate-or (row .count) (entryOf row) k zeroSuccessor ∙ choose (λ (z : Successor). z ≡ zeroSuccessor) (ltb k (row .count)) (λ e. none) (λ e. refl)
+    tabulate-or (row .count) (entryOf row) k zeroSuccessor
+    ∙ choose (λ (z : Successor). z ≡ zeroSuccessor) (ltb k (row .count)) (λ e. zero-past row long k h) (λ e. refl)
 
 -- Past its places the air reads as zeros.
 pub zero-packet : packetOf view.zeroPacket ≡ zeroPacket

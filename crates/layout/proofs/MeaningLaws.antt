@@ -63,15 +63,15 @@ module _ (bytes : List ℕ) where
 
 -- Bytes whose network is in range: they are long enough, n and the number of packets are within the layout's places, and the network is what
 -- they read as.
-pub record Known (bytes : List ℕ) : Type 0 where
+pub record Readable (bytes : List ℕ) : Type 0 where
   pub long : layoutLength ≤ length bytes
   pub few : byteAt bytes sizeAt ≤ 16
   pub room : byteAt bytes airAt ≤ airLimit
   pub is : storedNetwork bytes ≡ networkIn bytes
 
-pub known : (bytes : List ℕ) → memoryInRange (storedNetwork bytes) ≡ true → Known bytes
+pub readable : (bytes : List ℕ) → memoryInRange (storedNetwork bytes) ≡ true → Readable bytes
 unfolding hasMeaning
-known bytes h =
+readable bytes h =
     let memory = stored-in-range bytes h in
     let n = byteAt bytes sizeAt in
     let sized = both (sizesHaveMeaning (byteAt bytes 0) n (byteAt bytes airAt)) (allBelow n (stationHasMeaning bytes n)) (both _ _ (memory-meant bytes memory) .0) .0 in

@@ -63,7 +63,8 @@ module _ (net : Network) (fits : NetworkFits net) (bytes rest : List ℕ) (e : b
       let numbers = kept-back (λ (k : Station). k .number) (net .numbers) 0 (fits .stations .numbers-long) (λ k. refl) in
       let sought = kept-back (λ (k : Station). k .sought) (net .sought) 0 (fits .stations .sought-long) (λ k. refl) in
       let active = kept-back (λ (k : Station). k .active) (net .active) false (fits .stations .active-long) (λ k. refl) in
-      λ i. record { n = n-back i; labels = labels i; rows = rows i; records = records i; links = links i; numbers = numbers i; sought = sought i; active = active i; air = air-back i }
+      let serials = kept-back (λ (k : Station). k .serial) (net .serials) 0 (fits .stations .serials-long) (λ k. refl) in
+      λ i. record { n = n-back i; labels = labels i; rows = rows i; records = records i; links = links i; numbers = numbers i; sought = sought i; active = active i; air = air-back i; serials = serials i }
 
   -- The bytes have a meaning where n and the count are within the layout's places.
   record-meant : (k : ℕ) → k < 256 → flagsAt recordFormat bytes (recordsAt + recordWide * k) ≡ true

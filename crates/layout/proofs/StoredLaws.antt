@@ -65,7 +65,8 @@ module _ (bytes : List ℕ) (k : ℕ) where
       let number = List·getD-map (λ (x : Station). x .number) found k zeroStation in
       let sought = List·getD-map (λ (x : Station). x .sought) found k zeroStation in
       let active = List·getD-map (λ (x : Station). x .active) found k zeroStation in
-      (λ i. record { number = number i; sought = sought i; active = active i }) ∙ tabulate-at 16 (λ j. storedStation bytes (stationsAt + stationWide * j)) k zeroStation m
+      let serial = List·getD-map (λ (x : Station). x .serial) found k zeroStation in
+      (λ i. record { number = number i; sought = sought i; active = active i; serial = serial i }) ∙ tabulate-at 16 (λ j. storedStation bytes (stationsAt + stationWide * j)) k zeroStation m
 
   -- The air has as many packets as it counts.
   pub packet-at : k < byteAt bytes airAt → k < airLimit → getD (networkIn bytes .air) k zeroPacket ≡ storedPacket bytes (packetsAt + packetWide * k)

@@ -15,12 +15,13 @@ RowFits r = CountedFits rowLimit zeroSuccessor (Fits successorFormat) r
 abbrev pub PacketFits : Packet → Type 0
 PacketFits p = Fits packetFormat (plainOf p) × Known (p .body)
 
--- Each station has its number, destination and flag.
+-- Each station has its numbers, destination and flag.
 pub record StationsFit (net : Network) : Type 0 where
   pub entries : TableFits 16 zeroStation (Fits stationFormat) (stationsOf net)
   pub numbers-long : length (net .numbers) ≡ 16
   pub sought-long : length (net .sought) ≡ 16
   pub active-long : length (net .active) ≡ 16
+  pub serials-long : length (net .serials) ≡ 16
 
 pub record NetworkFits (net : Network) : Type 0 where
   pub stations : StationsFit net

@@ -4,9 +4,9 @@ use mathlib.Core.List.{List, [], _∷_}
 use Rattle.codec.specs.Fields.{total, placeOf}
 use Rattle.layout.specs.Formats.{labelWide, rowWide, recordWide, stationWide, linkWide, airWide}
 
--- The layout's number, which its first byte holds. The layout before had none and n in its first byte, so no number up to 16 is taken.
+-- The layout's number, which its first byte holds. The first layout had none and n in its first byte, so no number up to 16 is taken.
 abbrev pub layoutVersion : ℕ
-layoutVersion = 17
+layoutVersion = 18
 
 -- The version, n, the stations, the links, the labels, rows and records, and the air.
 abbrev pub partWidths : List ℕ

@@ -56,4 +56,5 @@ networkIn bytes = record {
   sought = map (λ k. k .sought) (storedStations bytes);
   active = map (λ k. k .active) (storedStations bytes);
   air = storedAir bytes airAt;
+  serials = map (λ k. k .serial) (storedStations bytes);
 }

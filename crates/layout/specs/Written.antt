@@ -35,7 +35,7 @@ packetBytes p = written packetFormat (plainOf p)
 abbrev pub airBytes : List Packet → List ℕ
 airBytes air = countedBytes packetBytes airLimit zeroPacket air
 
--- What the stations keep of their own requests.
+-- What the stations keep of their own requests and sendings.
 abbrev pub stationsOf : Network → List Station
 stationsOf net = tabulate 16 (stationOf net)
 

@@ -5,13 +5,13 @@ ghost use lib.ListN.{length, getD};
 ghost use lib.Seq.{sets};
 ghost use Rattle.codec.specs.Fields.{widths, values, AllFit, Fits};
 ghost use Rattle.model.specs.Memory.{rowLimit};
-ghost use Rattle.rows.specs.View.{successor, rowOf};
+ghost use Rattle.rows.specs.View.{rowOf};
 ghost use Rattle.network.specs.View.{recordOf};
 ghost use Rattle.layout.specs.Formats.{labelFormat, labelFrom, labelWide, successorFormat, successorFrom, successorWide, zeroSuccessor, rowWide, recordFormat, recordFrom, recordWide, stationFormat, stationFrom, stationWide, linkWide};
 ghost use Rattle.layout.specs.Stored.{storedLabel, storedSuccessor, storedRow, storedRecord, storedStation, storedLink};
 ghost use Rattle.layout.specs.Written.{labelBytes, successorBytes, rowBytes, recordBytes, stationBytes, linkBytes};
 ghost use Rattle.layout.specs.Fits.{RowFits};
-ghost use Rattle.layout.specs.Entries.{recordIn, stationIn};
+ghost use Rattle.layout.specs.Entries.{successorIn, recordIn, stationIn};
 use crate::formats::LABEL_WIDTHS;
 use crate::formats::LINK_WIDTHS;
 use crate::formats::RECORD_WIDTHS;
@@ -28,6 +28,10 @@ use network::Record;
 use network::RequestNumber;
 use rows::ROW_LIMIT;
 use rows::Row;
+use rows::Successor;
+use rows::empty_row;
+use rows::entry;
+use rows::with_entry;
 
 // The label with these values, and the values of a label.
 fn label_from(v: [u64; 3]) -> Label
@@ -70,50 +74,46 @@ pub fn put_label(out: &mut [u8], at: usize, l: Label)
     put_fields(out, at, &widths, &v);
 }
 
-// An entry of a row.
-pub struct Entry {
-    pub label: Label,
-    pub station: u8,
-}
-
-fn entry_from(v: [u64; 4]) -> Entry
+// The entry of a row with these values, and the values of an entry.
+fn entry_from(v: [u64; 5]) -> Successor
     requires { ⌜ AllFit (widths successorFormat) v ⌝ }
-    ensures { λ r. ⌜ successor (r .station) (r .label) ≡ successorFrom v ⌝ }
+    ensures { λ r. ⌜ successorIn r ≡ successorFrom v ⌝ }
 {
-    Entry {
+    Successor {
         label: Label {
             s: SequenceNumber(v[1]),
             m: v[2] as u32,
             d: v[3] as u32,
         },
+        serial: v[4],
         station: v[0] as u8,
     }
 }
 
-fn entry_values(e: Entry) -> [u64; 4]
-    ensures { λ r. ⌜ (r ≡ values successorFormat (successor (e .station) (e .label))) × Fits successorFormat (successor (e .station) (e .label)) ⌝ }
+fn entry_values(e: Successor) -> [u64; 5]
+    ensures { λ r. ⌜ (r ≡ values successorFormat (successorIn e)) × Fits successorFormat (successorIn e) ⌝ }
 {
     let station = e.station;
     let s = e.label.s.0;
     let m = e.label.m;
     let d = e.label.d;
-    [station as u64, s, m as u64, d as u64]
+    let serial = e.serial;
+    [station as u64, s, m as u64, d as u64, serial]
 }
 
-fn read_entry(bytes: &[u8], at: usize) -> Entry
+fn read_entry(bytes: &[u8], at: usize) -> Successor
     requires { ⌜ at + successorWide ≤ length (now bytes) ⌝ }
-    ensures { λ r. ⌜ successor (r .station) (r .label) ≡ storedSuccessor (now (bytes .entry)) at ⌝ }
+    ensures { λ r. ⌜ successorIn r ≡ storedSuccessor (now (bytes .entry)) at ⌝ }
 {
     let widths = SUCCESSOR_WIDTHS;
-    let mut v = [0; 4];
+    let mut v = [0; 5];
     get_fields(bytes, at, &widths, &mut v);
     entry_from(v)
 }
 
-fn put_entry(out: &mut [u8], at: usize, e: Entry)
+fn put_entry(out: &mut [u8], at: usize, e: Successor)
     requires { ⌜ at + successorWide ≤ length (now out) ⌝ }
-    ensures { λ _. ⌜ (now (out .exit) ≡ sets (now (out .entry)) at (successorBytes (successor (e .station) (e .label))))
-        × Fits successorFormat (successor (e .station) (e .label)) ⌝ }
+    ensures { λ _. ⌜ (now (out .exit) ≡ sets (now (out .entry)) at (successorBytes (successorIn e))) × Fits successorFormat (successorIn e) ⌝ }
 {
     let widths = SUCCESSOR_WIDTHS;
     let v = entry_values(e);
@@ -125,44 +125,32 @@ pub fn read_row(bytes: &[u8], at: usize) -> Row
     requires { ⌜ at + rowWide ≤ length (now bytes) ⌝ }
     ensures { λ r. ⌜ rowOf r ≡ storedRow (now (bytes .entry)) at ⌝ }
 {
-    let none = label_of(0, 0, 0);
-    let mut labels = [none; ROW_LIMIT as usize];
-    let mut stations = [0; ROW_LIMIT as usize];
+    let mut row = empty_row();
     let mut k = 0;
     while k < ROW_LIMIT as usize {
         let e = read_entry(bytes, at + 1 + SUCCESSOR_BYTES * k);
-        let label = e.label;
-        let station = e.station;
-        labels[k] = label;
-        stations[k] = station;
+        row = with_entry(row, k, e);
         k += 1;
     }
     let count = bytes[at];
-    Row {
-        labels: labels,
-        stations: stations,
-        count: count,
-    }
+    row.count = count;
+    row
 }
 
 // Entry k of a row, or zeros where the row has none.
-fn entry_of(row: Row, k: usize) -> Entry
+fn entry_of(row: Row, k: usize) -> Successor
     requires { ⌜ k < rowLimit ⌝ }
-    ensures { λ r. ⌜ successor (r .station) (r .label) ≡ getD (rowOf row) k zeroSuccessor ⌝ }
+    ensures { λ r. ⌜ successorIn r ≡ getD (rowOf row) k zeroSuccessor ⌝ }
 {
     let count = row.count as usize;
     if count <= k {
-        return Entry {
+        return Successor {
             label: label_of(0, 0, 0),
+            serial: 0,
             station: 0,
         };
     }
-    let label = row.labels[k];
-    let station = row.stations[k];
-    Entry {
-        label: label,
-        station: station,
-    }
+    entry(row, k)
 }
 
 pub fn put_row(out: &mut [u8], at: usize, row: Row)
@@ -237,14 +225,15 @@ pub fn put_record(out: &mut [u8], at: usize, kept: Record)
     put_fields(out, at, &widths, &v);
 }
 
-// What a station keeps of its own requests.
+// What a station keeps of its own requests and sendings.
 pub struct Station {
     pub number: RequestNumber,
     pub sought: u8,
     pub active: bool,
+    pub serial: u64,
 }
 
-fn station_from(v: [u64; 3]) -> Station
+fn station_from(v: [u64; 4]) -> Station
     requires { ⌜ AllFit (widths stationFormat) v ⌝ }
     ensures { λ r. ⌜ stationIn r ≡ stationFrom v ⌝ }
 {
@@ -252,16 +241,18 @@ fn station_from(v: [u64; 3]) -> Station
         number: RequestNumber(v[0] as u32),
         sought: v[1] as u8,
         active: v[2] == 1,
+        serial: v[3],
     }
 }
 
-fn station_values(k: Station) -> [u64; 3]
+fn station_values(k: Station) -> [u64; 4]
     ensures { λ r. ⌜ (r ≡ values stationFormat (stationIn k)) × Fits stationFormat (stationIn k) ⌝ }
 {
     let number = k.number.0;
     let sought = k.sought;
     let active = k.active;
-    [number as u64, sought as u64, active as u64]
+    let serial = k.serial;
+    [number as u64, sought as u64, active as u64, serial]
 }
 
 // The station's entry at a place.
@@ -270,7 +261,7 @@ pub fn read_station(bytes: &[u8], at: usize) -> Station
     ensures { λ r. ⌜ stationIn r ≡ storedStation (now (bytes .entry)) at ⌝ }
 {
     let widths = STATION_WIDTHS;
-    let mut v = [0; 3];
+    let mut v = [0; 4];
     get_fields(bytes, at, &widths, &mut v);
     station_from(v)
 }

@@ -6,9 +6,9 @@ pub const LABEL_WIDTHS: [usize; 3] = [8, 4, 4];
 
 pub const LABEL_BYTES: usize = 8 + 4 + 4;
 
-pub const SUCCESSOR_WIDTHS: [usize; 4] = [1, 8, 4, 4];
+pub const SUCCESSOR_WIDTHS: [usize; 5] = [1, 8, 4, 4, 8];
 
-pub const SUCCESSOR_BYTES: usize = 1 + LABEL_BYTES;
+pub const SUCCESSOR_BYTES: usize = 1 + LABEL_BYTES + 8;
 
 pub const ROW_BYTES: usize = 1 + SUCCESSOR_BYTES * ROW_LIMIT as usize;
 
@@ -16,16 +16,16 @@ pub const RECORD_WIDTHS: [usize; 7] = [4, 1, 8, 4, 4, 1, 1];
 
 pub const RECORD_BYTES: usize = 4 + 1 + LABEL_BYTES + 1 + 1;
 
-pub const STATION_WIDTHS: [usize; 3] = [4, 1, 1];
+pub const STATION_WIDTHS: [usize; 4] = [4, 1, 1, 8];
 
-pub const STATION_BYTES: usize = 4 + 1 + 1;
+pub const STATION_BYTES: usize = 4 + 1 + 1 + 8;
 
 pub const LINK_WIDTHS: [usize; 1] = [1];
 
 pub const LINK_BYTES: usize = 1;
 
-pub const PACKET_WIDTHS: [usize; 11] = [1, 1, 1, 1, 4, 1, 8, 4, 4, 1, 2];
+pub const PACKET_WIDTHS: [usize; 12] = [1, 1, 1, 1, 4, 1, 8, 4, 4, 1, 2, 8];
 
-pub const PACKET_BYTES: usize = 1 + 1 + 1 + 1 + 4 + 1 + LABEL_BYTES + 1 + 2;
+pub const PACKET_BYTES: usize = 1 + 1 + 1 + 1 + 4 + 1 + LABEL_BYTES + 1 + 2 + 8;
 
 pub const AIR_BYTES: usize = 1 + PACKET_BYTES * AIR_LIMIT as usize;

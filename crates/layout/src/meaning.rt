@@ -46,7 +46,7 @@ fn station_flags(bytes: &[u8], at: usize) -> bool
     ensures { λ r. ⌜ r ≡ flagsAt stationFormat (now (bytes .entry)) at ⌝ }
 {
     let widths = STATION_WIDTHS;
-    let mut v = [0; 3];
+    let mut v = [0; 4];
     get_fields(bytes, at, &widths, &mut v);
     v[2] < 2
 }
@@ -142,7 +142,7 @@ fn packet_has_meaning(bytes: &[u8], at: usize) -> bool
     ensures { λ r. ⌜ r ≡ packetHasMeaning (now (bytes .entry)) at ⌝ }
 {
     let widths = PACKET_WIDTHS;
-    let mut v = [0; 11];
+    let mut v = [0; 12];
     get_fields(bytes, at, &widths, &mut v);
     fields_have_meaning(packet_from(v), v[9])
 }

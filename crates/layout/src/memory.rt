@@ -132,22 +132,25 @@ fn read_links(bytes: &[u8]) -> [bool; 256]
     links
 }
 
-// What the stations keep of their own requests.
+// What the stations keep of their own requests and sendings.
 pub struct Stations {
     pub numbers: [RequestNumber; 16],
     pub sought: [u8; 16],
     pub active: [bool; 16],
+    pub serials: [u64; 16],
 }
 
 fn read_stations(bytes: &[u8]) -> Stations
     requires { ⌜ layoutLength ≤ length (now bytes) ⌝ }
     ensures { λ r. ⌜ (map (λ k. k .0) (r .numbers) ≡ map (λ k. k .number) (storedStations (now (bytes .entry))))
-        × (r .sought ≡ map (λ k. k .sought) (storedStations (now (bytes .entry)))) × (r .active ≡ map (λ k. k .active) (storedStations (now (bytes .entry)))) ⌝ }
+        × (r .sought ≡ map (λ k. k .sought) (storedStations (now (bytes .entry)))) × (r .active ≡ map (λ k. k .active) (storedStations (now (bytes .entry))))
+        × (r .serials ≡ map (λ k. k .serial) (storedStations (now (bytes .entry)))) ⌝ }
 {
     let none = RequestNumber(0);
     let mut numbers = [none; 16];
     let mut sought = [0; 16];
     let mut active = [false; 16];
+    let mut serials = [0; 16];
     let mut i = 0;
     while i < 16 {
         let kept = read_station(bytes, STATIONS_AT + STATION_BYTES * i);
@@ -155,12 +158,14 @@ fn read_stations(bytes: &[u8]) -> Stations
         numbers[i] = number;
         sought[i] = kept.sought;
         active[i] = kept.active;
+        serials[i] = kept.serial;
         i += 1;
     }
     Stations {
         numbers: numbers,
         sought: sought,
         active: active,
+        serials: serials,
     }
 }
 
@@ -182,12 +187,14 @@ fn read(bytes: &[u8]) -> Memory
     let numbers = kept.numbers;
     let sought = kept.sought;
     let active = kept.active;
+    let serials = kept.serials;
     Memory {
         s: s,
         m: m,
         d: d,
         rows: rows,
         records: records,
+        serials: serials,
         numbers: numbers,
         sought: sought,
         active: active,
@@ -217,10 +224,12 @@ fn write_stations(out: &mut [u8], kept: Stations)
         let number = kept.numbers[i];
         let sought = kept.sought[i];
         let active = kept.active[i];
+        let serial = kept.serials[i];
         let station = Station {
             number: number,
             sought: sought,
             active: active,
+            serial: serial,
         };
         put_station(out, STATIONS_AT + STATION_BYTES * i, station);
         i += 1;
@@ -284,6 +293,7 @@ pub fn write(out: &mut [u8], memory: Memory)
     let numbers = memory.numbers;
     let sought = memory.sought;
     let active = memory.active;
+    let serials = memory.serials;
     let links = memory.links;
     let s = memory.s;
     let m = memory.m;
@@ -295,6 +305,7 @@ pub fn write(out: &mut [u8], memory: Memory)
         numbers: numbers,
         sought: sought,
         active: active,
+        serials: serials,
     };
     put_byte(out, 0, VERSION);
     put_byte(out, SIZE_AT, n);

@@ -25,7 +25,7 @@ use network::Packet;
 use network::RequestNumber;
 
 // The packet with these values, and the values of a packet.
-pub fn packet_from(v: [u64; 11]) -> Packet
+pub fn packet_from(v: [u64; 12]) -> Packet
     requires { ⌜ AllFit (widths packetFormat) v ⌝ }
     ensures { λ r. ⌜ r ≡ packetFrom v ⌝ }
 {
@@ -35,6 +35,7 @@ pub fn packet_from(v: [u64; 11]) -> Packet
             m: v[7] as u32,
             d: v[8] as u32,
         },
+        serial: v[11],
         number: RequestNumber(v[4] as u32),
         mask: v[10] as u16,
         kind: v[2] as u8,
@@ -46,7 +47,7 @@ pub fn packet_from(v: [u64; 11]) -> Packet
     }
 }
 
-fn packet_values(p: Packet) -> [u64; 11]
+fn packet_values(p: Packet) -> [u64; 12]
     ensures { λ r. ⌜ (r ≡ values packetFormat p) × Fits packetFormat p ⌝ }
 {
     let sender = p.sender;
@@ -60,6 +61,7 @@ fn packet_values(p: Packet) -> [u64; 11]
     let d = p.label.d;
     let reset = p.reset;
     let mask = p.mask;
+    let serial = p.serial;
     [
         sender as u64,
         receiver as u64,
@@ -72,6 +74,7 @@ fn packet_values(p: Packet) -> [u64; 11]
         d as u64,
         reset as u64,
         mask as u64,
+        serial,
     ]
 }
 
@@ -81,14 +84,14 @@ pub fn read_packet(bytes: &[u8], at: usize) -> Packet
     ensures { λ r. ⌜ r ≡ storedFields (now (bytes .entry)) at ⌝ }
 {
     let widths = PACKET_WIDTHS;
-    let mut v = [0; 11];
+    let mut v = [0; 12];
     get_fields(bytes, at, &widths, &mut v);
     packet_from(v)
 }
 
-// A packet with nothing but sender, receiver, kind and mask.
-fn bare(sender: u8, receiver: u8, kind: u8, mask: u16) -> Packet
-    ensures { λ r. ⌜ r ≡ bare sender receiver kind mask ⌝ }
+// A packet with nothing but sender, receiver, kind, mask and serial number.
+fn bare(sender: u8, receiver: u8, kind: u8, mask: u16, serial: u64) -> Packet
+    ensures { λ r. ⌜ r ≡ bare sender receiver kind mask serial ⌝ }
 {
     Packet {
         label: Label {
@@ -96,6 +99,7 @@ fn bare(sender: u8, receiver: u8, kind: u8, mask: u16) -> Packet
             m: 0,
             d: 0,
         },
+        serial: serial,
         number: RequestNumber(0),
         mask: mask,
         kind: kind,
@@ -115,6 +119,7 @@ fn plain(p: Packet) -> Packet
     let sender = p.sender;
     let receiver = p.receiver;
     let mask = p.mask;
+    let serial = p.serial;
     let mut q = p;
     q.mask = 0;
     if kind == 1 {
@@ -125,9 +130,9 @@ fn plain(p: Packet) -> Packet
         return q;
     }
     if kind == 3 {
-        return bare(sender, receiver, 3, mask);
+        return bare(sender, receiver, 3, mask, serial);
     }
-    bare(sender, receiver, kind, 0)
+    bare(sender, receiver, kind, 0, serial)
 }
 
 pub fn put_packet(out: &mut [u8], at: usize, p: Packet)
@@ -146,7 +151,7 @@ fn counted(p: Packet, there: bool) -> Packet
     if there {
         return p;
     }
-    bare(0, 0, 0, 0)
+    bare(0, 0, 0, 0, 0)
 }
 
 // The packets in the air, at a place.
@@ -154,7 +159,7 @@ pub fn read_air(bytes: &[u8], at: usize) -> Air
     requires { ⌜ at + airWide ≤ length (now bytes) ⌝ }
     ensures { λ r. ⌜ airOf r ≡ storedAir (now (bytes .entry)) at ⌝ }
 {
-    let none = bare(0, 0, 0, 0);
+    let none = bare(0, 0, 0, 0, 0);
     let packets = [none; AIR_LIMIT as usize];
     let count = bytes[at];
     let mut air = Air {

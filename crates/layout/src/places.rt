@@ -7,7 +7,7 @@ use crate::formats::ROW_BYTES;
 use crate::formats::STATION_BYTES;
 
 // The layout's number.
-pub const VERSION: u8 = 17;
+pub const VERSION: u8 = 18;
 
 pub const SIZE_AT: usize = 1;
 

@@ -9,10 +9,10 @@ use Rattle.base.specs.Results.{Result, refused, accepted, refuse_when_otherwise
 use Rattle.base.proofs.Results.{Satisfies, accepts, satisfies-refuse, satisfies-refused, satisfies-accepted}
 use Rattle.label.specs.declared.Label.{Label}
 use Rattle.label.specs.Label.{Outcome, took, gave, above, fitting, next, split, newLabel}
-use Rattle.model.specs.Memory.{Request, Reply, Body, request, reply, error, other, Network, names, labelAt, rowAt, recordAt, setRecord}
+use Rattle.model.specs.Memory.{Request, Reply, Body, request, reply, error, other, Network, labelAt, rowAt, recordAt, setRecord}
 use Rattle.model.specs.Calls.{Call, Open, Up, Down, Solicit, GiveUp, Expire, Deliver, Lose, Duplicate}
 use Rattle.model.specs.Calls.{Effect, limited, opening, step}
-use Rattle.model.specs.Calls.{bit, removes, emptied, recorded, resets, canReply, matches, passesOn}
+use Rattle.model.specs.Calls.{bit, removes, emptied, withdrawn, recorded, resets, canReply, matches, passesOn}
 use Rattle.model.specs.Calls.{sending, down, solicit, replyTo, atDestination, engage, onRequest, passOn, onOutcome, onReply, errorOutcome, onError, receive, deliver}
 
 record Answers (e : Effect) : Type 0 where
@@ -24,9 +24,9 @@ Tells z = Satisfies (λ number. isRefusal number ≡ true) Answers z
 refuse-tells : (number : ℕ) (case : Bool) (rest : Result Effect) → isRefusal number ≡ true → Tells rest → Tells (refuse number when case otherwise rest)
 refuse-tells number case rest h k = satisfies-refuse number case rest h (λ e. k)
 
-limited-tells : (e : Effect) → Answers e → Tells (limited e)
+limited-tells : (net : Network) (e : Effect) → Answers e → Tells (limited net e)
 unfolding limited isRefusal
-limited-tells e h = refuse-tells 7 _ (accepted e) refl (accepts h)
+limited-tells net e h = refuse-tells 13 _ _ refl (refuse-tells 7 _ (accepted e) refl (accepts h))
 
 -- The numbers of New label.
 data Gives : Outcome → Type 0 where
@@ -69,32 +69,32 @@ pass-answers : (answer i : ℕ) (v : Reply) (net : Network) → isRefusal answer
 unfolding passOn replyTo sending
 pass-answers answer i v net h = choose Answers (passesOn i v net) (λ e. record { tells = h }) (λ e. record { tells = h })
 
-outcome-answers : (i j : ℕ) (v : Reply) (o : Outcome) (net : Network) → Gives o → Answers (onOutcome i j v o net)
+outcome-answers : (i j serial : ℕ) (v : Reply) (o : Outcome) (net : Network) → Gives o → Answers (onOutcome i j serial v o net)
 unfolding onOutcome isRefusal
-outcome-answers i j v (gave number) net (gives h) = pass-answers number i v net h
-outcome-answers i j v (took g) net h = pass-answers 115 i v _ refl
+outcome-answers i j serial v (gave number) net (gives h) = pass-answers number i v net h
+outcome-answers i j serial v (took g) net h = pass-answers 115 i v _ refl
 
-reply-answers : (i j : ℕ) (v : Reply) (net : Network) → Answers (onReply i j v net)
+reply-answers : (i j serial : ℕ) (v : Reply) (net : Network) → Answers (onReply i j serial v net)
 unfolding onReply isRefusal
-reply-answers i j v net =
-    choose Answers (eqb i (v .destination) || not (matches i v net)) (λ e. record { tells = refl }) (λ e. outcome-answers i j v _ net (new-gives _ _ _))
+reply-answers i j serial v net =
+    choose Answers (eqb i (v .destination) || not (matches i v net)) (λ e. record { tells = refl }) (λ e. outcome-answers i j serial v _ net (new-gives _ _ _))
 
-error-answers : (i j mask : ℕ) (net : Network) → Answers (onError i j mask net)
+error-answers : (i j serial mask : ℕ) (net : Network) → Answers (onError i j serial mask net)
 unfolding onError sending errorOutcome isRefusal
-error-answers i j mask net = record {
-  tells = outcome (removes (bit mask) (names j) i (net .n) (net .rows)) (emptied (bit mask) (names j) i (net .n) (net .rows));
+error-answers i j serial mask net = record {
+  tells = outcome (removes (bit mask) (withdrawn j serial) i (net .n) (net .rows)) (emptied (bit mask) (withdrawn j serial) i (net .n) (net .rows));
 }
   where
     outcome : (removed : Bool) (gone : ℕ) → isRefusal (errorOutcome removed gone) ≡ false
     outcome true gone = choose (λ k. isRefusal k ≡ false) (eqb gone 0) (λ e. refl) (λ e. refl)
     outcome false gone = refl
 
-receive-answers : (i j : ℕ) (b : Body) (net : Network) → Answers (receive i j b net)
+receive-answers : (i j serial : ℕ) (b : Body) (net : Network) → Answers (receive i j serial b net)
 unfolding receive isRefusal
-receive-answers i j (request R) net = request-answers i j R net
-receive-answers i j (reply v) net = reply-answers i j v net
-receive-answers i j (error mask) net = error-answers i j mask net
-receive-answers i j (other kind) net = record { tells = refl }
+receive-answers i j serial (request R) net = request-answers i j R net
+receive-answers i j serial (reply v) net = reply-answers i j serial v net
+receive-answers i j serial (error mask) net = error-answers i j serial mask net
+receive-answers i j serial (other kind) net = record { tells = refl }
 
 none-answers : (e : Effect) → e .answer ≡ 0 → Answers e
 unfolding isRefusal
@@ -104,14 +104,14 @@ step-tells : (c : Call) (net : Network) → Tells (step c net)
 unfolding step opening down solicit sending deliver isRefusal
 step-tells (Open n start) net = refuse-tells 1 _ _ refl (accepts (none-answers _ refl))
 step-tells (Up a b) net = refuse-tells 1 _ _ refl (refuse-tells 2 _ _ refl (refuse-tells 3 _ _ refl (accepts (none-answers _ refl))))
-step-tells (Down a b) net = refuse-tells 1 _ _ refl (refuse-tells 2 _ _ refl (refuse-tells 3 _ _ refl (limited-tells _ (none-answers _ refl))))
+step-tells (Down a b) net = refuse-tells 1 _ _ refl (refuse-tells 2 _ _ refl (refuse-tells 3 _ _ refl (limited-tells net _ (none-answers _ refl))))
 step-tells (Solicit a t) net =
-    refuse-tells 1 _ _ refl (refuse-tells 2 _ _ refl (refuse-tells 4 _ _ refl (refuse-tells 8 _ _ refl (limited-tells _ (none-answers _ refl)))))
+    refuse-tells 1 _ _ refl (refuse-tells 2 _ _ refl (refuse-tells 4 _ _ refl (refuse-tells 8 _ _ refl (limited-tells net _ (none-answers _ refl)))))
 step-tells (GiveUp a) net = refuse-tells 1 _ _ refl (refuse-tells 2 _ _ refl (refuse-tells 5 _ _ refl (accepts (none-answers _ refl))))
 step-tells (Expire a t) net = refuse-tells 1 _ _ refl (refuse-tells 2 _ _ refl (accepts (none-answers _ refl)))
-step-tells (Deliver k) net = refuse-tells 1 _ _ refl (refuse-tells 6 _ _ refl (limited-tells _ (receive-answers _ _ _ _)))
+step-tells (Deliver k) net = refuse-tells 1 _ _ refl (refuse-tells 6 _ _ refl (limited-tells net _ (receive-answers _ _ _ _ _)))
 step-tells (Lose k) net = refuse-tells 1 _ _ refl (refuse-tells 6 _ _ refl (accepts (none-answers _ refl)))
-step-tells (Duplicate k) net = refuse-tells 1 _ _ refl (refuse-tells 6 _ _ refl (limited-tells _ (none-answers _ refl)))
+step-tells (Duplicate k) net = refuse-tells 1 _ _ refl (refuse-tells 6 _ _ refl (limited-tells net _ (none-answers _ refl)))
 
 -- So the answer tells how a call ended.
 pub refused-tells : (c : Call) (net : Network) (number : ℕ) → step c net ≡ refused number → isRefusal number ≡ true

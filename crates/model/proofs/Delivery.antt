@@ -19,8 +19,8 @@ use Rattle.label.proofs.Order.{above-higher, ≻-irreflexive}
 use Rattle.label.proofs.New.{new-label-maintains}
 use Rattle.model.specs.Memory.{Successor, Request, Reply, Body, request, reply, error, other, Network}
 use Rattle.model.specs.Memory.{place, zeroPacket, linkIn, labelAt, rowAt, recordAt, linkUp, packetAt, setLabels, setRows, setRecords, setActives, setAir}
-use Rattle.model.specs.Memory.{names, under}
-use Rattle.model.specs.Calls.{Effect, emptied, bit, onError, removePacket, receive, deliver}
+use Rattle.model.specs.Memory.{under}
+use Rattle.model.specs.Calls.{Effect, emptied, bit, withdrawn, onError, removePacket, receive, deliver}
 use Rattle.model.specs.Calls.{recorded, markPassed, replyTo, resets, withNumber, atDestination, canReply, onwardLabel, onward, engage, onRequest}
 use Rattle.model.specs.Calls.{matches, cachedAt, adopt, settle, passesOn, passOn, onOutcome, onReply}
 use Rattle.model.proofs.Rows.{under-mem, put-mem, put-length, put-distinct, emptied-below}
@@ -45,7 +45,7 @@ module _ {Reachable : Type 0} (net : Network) (ok : WellFormed Reachable net) wh
       let r = ok .records .each i s hi hs is in
       let marked = markPassed (recordAt net i s) in
       let still : RecordOk (net .n) marked = record { destination-below = r .destination-below; hop-below = r .hop-below; ranged = r .ranged } in
-      well-formed-sending _ (well-formed-record net ok i s hi hs marked still) k _
+      well-formed-sending _ (well-formed-record net ok i s hi hs marked still) k i _
       (air-one _
       (record {
         sender-below = hi;
@@ -104,7 +104,7 @@ module _ {Reachable : Type 0} (i j : ℕ) (R : Request) where
       (λ e. well-formed-destination net ok f h is)
       (λ e. choose (λ (z : Effect). WellFormed Reachable (z .net)) (canReply own (rowAt net i t) R)
       (λ q. well-formed-answer net ok f h is t (h .destination-below))
-      (λ q. well-formed-sending net ok 103 _ (copies-ok net i (f .here) (request (onward own R))
+      (λ q. well-formed-sending net ok 103 i _ (copies-ok net i (f .here) (request (onward own R))
       (record { source-below = h .source-below; numbered = h .numbered; destination-below = h .destination-below; ranged = ranged }) tt)))
 
   well-formed-request : (net : Network) → WellFormed Reachable net → From Reachable (net .n) (net .links) i j → BodyOk (net .n) (request R) → WellFormed Reachable (onRequest i j R net .net)
@@ -138,7 +138,7 @@ well-formed-passOn {Reachable} net ok k i v hi h =
     (link-apart (net .links) i (own .lastHop) (w .1)) (λ reachable. w .1) (h .source-below) is (h .numbered) (h .destination-below))
     (λ e. ok)
 
-module _ {Reachable : Type 0} (net : Network) (ok : WellFormed Reachable net) (i j : ℕ) (v : Reply) (f : From Reachable (net .n) (net .links) i j) (h : BodyOk (net .n) (reply v)) where
+module _ {Reachable : Type 0} (net : Network) (ok : WellFormed Reachable net) (i j serial : ℕ) (v : Reply) (f : From Reachable (net .n) (net .links) i j) (h : BodyOk (net .n) (reply v)) where
   module _ (away : i ≢ v .destination) (advertised : Reachable → Advertised (net .labels) j (reply v)) where
     -- i takes the label g, which maintains order.
     module _ (c g : Label) (order : MaintainsOrder (labelAt net i (v .destination)) c (v .label) g) where
@@ -150,7 +150,7 @@ module _ {Reachable : Type 0} (net : Network) (ok : WellFormed Reachable net) (i
       monotone = label-monotone (net .n) (net .labels) (ok .high) (ok .tables .labels-length) i (v .destination) g (f .here) (h .destination-below) (order .own)
 
       -- The entry for j, and an entry that stays.
-      new-entry : SuccessorOk Reachable (net .n) L′ (net .links) i (v .destination) g (record { station = j; label = v .label })
+      new-entry : SuccessorOk Reachable (net .n) L′ (net .links) i (v .destination) g (record { station = j; label = v .label; serial = serial })
       new-entry = record {
         below = f .there;
         apart = f .apart;
@@ -175,7 +175,7 @@ module _ {Reachable : Type 0} (net : Network) (ok : WellFormed Reachable net) (i
             route = λ reachable. let r = o .route reachable in record { up = r .up; lower = k .1; advertised = r .advertised };
           })
 
-      well-formed-adopt : WellFormed Reachable (adopt i j v g net)
+      well-formed-adopt : WellFormed Reachable (adopt i j serial v g net)
       unfolding adopt under L′ setRows setLabels
       well-formed-adopt =
           let filtered = cell-keep (ok .tables .cell i (v .destination) (f .here) (h .destination-below)) _ in
@@ -188,7 +188,7 @@ module _ {Reachable : Type 0} (net : Network) (ok : WellFormed Reachable net) (i
             each = λ e m. cases (put-mem _ _ m) (λ p. subst (SuccessorOk Reachable (net .n) L′ (net .links) i (v .destination) g) (sym p) new-entry) (old-entry e);
           })
 
-      well-formed-taken : WellFormed Reachable (passOn 115 i v (settle i v (adopt i j v g net)) .net)
+      well-formed-taken : WellFormed Reachable (passOn 115 i v (settle i v (adopt i j serial v g net)) .net)
       unfolding settle adopt setActives setRows setLabels
       well-formed-taken =
           choose (λ z. WellFormed Reachable (passOn 115 i v z .net)) (eqb i (v .source))
@@ -197,7 +197,7 @@ module _ {Reachable : Type 0} (net : Network) (ok : WellFormed Reachable net) (i
 
     -- Whatever New label gives, if the label that it takes maintains order.
     well-formed-outcome : (c : Label) (o : Outcome) → ((g : Label) → o ≡ took g → MaintainsOrder (labelAt net i (v .destination)) c (v .label) g)
-        → WellFormed Reachable (onOutcome i j v o net .net)
+        → WellFormed Reachable (onOutcome i j serial v o net .net)
     unfolding onOutcome
     well-formed-outcome c (gave k) order = well-formed-passOn net ok k i v (f .here) h
     well-formed-outcome c (took g) order = well-formed-taken c g (order g refl)
@@ -208,7 +208,7 @@ module _ {Reachable : Type 0} (net : Network) (ok : WellFormed Reachable net) (i
       choose (λ z. inRange z ≡ true) (eqb i (v .source)) (λ q. unassigned-in-range)
       (λ q. ok .records .each i (v .source) (f .here) (h .source-below) (eqb-false i (v .source) q) .ranged)
 
-  well-formed-reply : (Reachable → Advertised (net .labels) j (reply v)) → WellFormed Reachable (onReply i j v net .net)
+  well-formed-reply : (Reachable → Advertised (net .labels) j (reply v)) → WellFormed Reachable (onReply i j serial v net .net)
   unfolding onReply
   well-formed-reply advertised =
       let t = v .destination in
@@ -217,25 +217,26 @@ module _ {Reachable : Type 0} (net : Network) (ok : WellFormed Reachable net) (i
       (λ g q. new-label-maintains _ _ _ g (ok .tables .cell i t (f .here) (h .destination-below) .ranged) cached-ranged (h .ranged) q))
 
 -- An error from j.
-well-formed-error : {Reachable : Type 0} (net : Network) → WellFormed Reachable net → (i j mask : ℕ) → i < net .n → WellFormed Reachable (onError i j mask net .net)
+well-formed-error : {Reachable : Type 0} (net : Network) → WellFormed Reachable net → (i j serial mask : ℕ) → i < net .n → WellFormed Reachable (onError i j serial mask net .net)
 unfolding onError setRows
-well-formed-error net ok i j mask hi =
-    well-formed-sending _ (well-formed-rows net ok _ (tables-takeOut (bit mask) (names j) i (net .n) (net .rows) (ok .tables))) _ _
-    (errors-ok net i hi (emptied (bit mask) (names j) i (net .n) (net .rows)) (emptied-below (bit mask) (names j) i (net .n) (net .rows)))
+well-formed-error net ok i j serial mask hi =
+    let leaves = withdrawn j serial in
+    well-formed-sending _ (well-formed-rows net ok _ (tables-takeOut (bit mask) leaves i (net .n) (net .rows) (ok .tables))) _ i _
+    (errors-ok net i hi (emptied (bit mask) leaves i (net .n) (net .rows)) (emptied-below (bit mask) leaves i (net .n) (net .rows)))
 
-well-formed-receive : {Reachable : Type 0} (net : Network) → WellFormed Reachable net → (i j : ℕ) (b : Body) → From Reachable (net .n) (net .links) i j → BodyOk (net .n) b
-    → (Reachable → Advertised (net .labels) j b) → WellFormed Reachable (receive i j b net .net)
+well-formed-receive : {Reachable : Type 0} (net : Network) → WellFormed Reachable net → (i j serial : ℕ) (b : Body) → From Reachable (net .n) (net .links) i j → BodyOk (net .n) b
+    → (Reachable → Advertised (net .labels) j b) → WellFormed Reachable (receive i j serial b net .net)
 unfolding receive
-well-formed-receive net ok i j (request R) f h advertised = well-formed-request i j R net ok f h
-well-formed-receive net ok i j (reply v) f h advertised = well-formed-reply net ok i j v f h advertised
-well-formed-receive net ok i j (error mask) f h advertised = well-formed-error net ok i j mask (f .here)
-well-formed-receive net ok i j (other kind) f h advertised = ok
+well-formed-receive net ok i j serial (request R) f h advertised = well-formed-request i j R net ok f h
+well-formed-receive net ok i j serial (reply v) f h advertised = well-formed-reply net ok i j serial v f h advertised
+well-formed-receive net ok i j serial (error mask) f h advertised = well-formed-error net ok i j serial mask (f .here)
+well-formed-receive net ok i j serial (other kind) f h advertised = ok
 
 pub well-formed-deliver : {Reachable : Type 0} (k : ℕ) (net : Network) → WellFormed Reachable net → k < length (net .air) → WellFormed Reachable (deliver k net .net)
 unfolding deliver removePacket setAir
 well-formed-deliver k net ok h =
     let p = packetAt net k in
     let o = ok .air p (mem-at (net .air) k zeroPacket h) in
-    well-formed-receive (removePacket k net) (well-formed-remove net ok k) (p .receiver) (p .sender) (p .body)
+    well-formed-receive (removePacket k net) (well-formed-remove net ok k) (p .receiver) (p .sender) (p .serial) (p .body)
     (record { here = o .receiver-below; there = o .sender-below; apart = o .apart; up = λ reachable. o .underway reachable .up })
     (o .body) (λ reachable. o .underway reachable .advertised)

@@ -19,7 +19,7 @@ use Rattle.label.specs.Label.{inRange, _≻_, _⪰_}
 use Rattle.label.proofs.Order.{≻-irreflexive, ⪰-transitive}
 use Rattle.model.specs.Memory.{Successor, Row, Record, Body, request, reply, error, other, Packet, Network}
 use Rattle.model.specs.Memory.{place, zeroLabel, zeroRecord, labelIn, rowIn, recordIn, linkIn, stations, rowLimit}
-use Rattle.model.specs.Memory.{setLabels, setRows, setRecords, setLinks, setNumbers, setSoughts, setActives, setAir}
+use Rattle.model.specs.Memory.{setLabels, setRows, setRecords, setLinks, setNumbers, setSoughts, setActives, setAir, setSerials}
 use Rattle.model.proofs.Rows.{keep-distinct}
 
 -- In what follows L is the table of labels, R of rows, K of links and C of records.
@@ -141,6 +141,10 @@ module _ {Reachable : Type 0} (net : Network) (ok : WellFormed Reachable net) wh
   pub well-formed-air : (air : List Packet) → AirOk Reachable (net .n) (net .labels) (net .links) air → WellFormed Reachable (setAir air net)
   unfolding setAir
   well-formed-air air air-ok = record { low = ok .low; high = ok .high; tables = ok .tables; records = ok .records; sought = ok .sought; air = air-ok }
+
+  pub well-formed-serials : (l : List ℕ) → WellFormed Reachable (setSerials l net)
+  unfolding setSerials
+  well-formed-serials l = record { low = ok .low; high = ok .high; tables = ok .tables; records = ok .records; sought = ok .sought; air = ok .air }
 
 -- Places of a table.
 

@@ -6,6 +6,7 @@ pub mod Range
 pub mod Fresh
 pub mod Refusals
 pub mod Sending
+pub mod Serials
 pub mod Delivery
 pub mod Steps
 pub mod Tracing

@@ -1,13 +1,14 @@
 -- A call by the tests for its refusals, one after the other.
 use Prim.Native.Nat.{ℕ, _+_, _≤_, _<_}
-use mathlib.Core.Path.{_≡_}
+use mathlib.Core.Path.{_≡_, refl, sym, ap, _∙_}
 use mathlib.Core.Logic.{_≢_}
-use mathlib.Core.Bool.{true, false, not, _||_}
+use mathlib.Core.Bool.{Bool, true, false, not, _||_}
 use mathlib.Core.List.{List, [], _∷_}
 use lib.ListN.{length, length-map, length-append}
-use lib.Dec.{leb, eqb}
+use lib.Dec.{ltb, leb, eqb}
 use native.Mathlib.Omega.{arith}
 use borrow.Author.Tests.{lt-ltb, le-ltb, leb-true, leb-false, eqb-false, not-false}
+use Rattle.base.specs.Choice.{if_then_else_}
 use Rattle.base.proofs.Booleans.{both, neither, choose}
 use Rattle.base.proofs.Loops.{below-length}
 use Rattle.base.specs.Numbers.{maxU32}
@@ -16,8 +17,8 @@ use Rattle.base.proofs.Results.{refuse-holds, refuse-passes}
 use Rattle.model.specs.Memory.{Packet, Network, linkUp, requestNumberAt, isActive, packetAt, setLink, setRow, setActive, setAir}
 use Rattle.model.specs.Memory.{fresh, airLimit, sizeInRange, memoryInRange}
 use Rattle.model.specs.Calls.{Call, Open, Up, Down, Solicit, GiveUp, Expire, Deliver, Lose, Duplicate}
-use Rattle.model.specs.Calls.{effect, limited, notStation, notPair, notPacket}
-use Rattle.model.specs.Calls.{send, sending, neighbours, copies, errors, down, solicit, removePacket, deliver, notOpening, opening, step, run}
+use Rattle.model.specs.Calls.{Effect, effect, usedUp, limited, notStation, notPair, notPacket}
+use Rattle.model.specs.Calls.{append, neighbours, copies, errors, down, solicit, removePacket, deliver, notOpening, opening, step, run}
 use Rattle.model.specs.Walks.{Reached}
 
 -- Open.
@@ -118,7 +119,7 @@ module _ (net : Network) (r : memoryInRange net ≡ true) (a b : ℕ) where
   unfolding step refuse_when_otherwise_
   down-3 h k = simp (r, h, k)
 
-  pub down-limited : notPair net a b ≡ false → linkUp net a b ≡ true → step (Down a b) net ≡ limited (down a b net)
+  pub down-limited : notPair net a b ≡ false → linkUp net a b ≡ true → step (Down a b) net ≡ limited net (down a b net)
   unfolding step refuse_when_otherwise_
   down-limited h k = simp (r, h, k)
 
@@ -135,7 +136,7 @@ module _ (net : Network) (r : memoryInRange net ≡ true) (a b : ℕ) where
   solicit-8 h k l = simp (r, h, k, l)
 
   pub solicit-limited : notPair net a b ≡ false → isActive net a ≡ false → leb maxU32 (requestNumberAt net a) ≡ false
-      → step (Solicit a b) net ≡ limited (solicit a b net)
+      → step (Solicit a b) net ≡ limited net (solicit a b net)
   unfolding step refuse_when_otherwise_
   solicit-limited h k l = simp (r, h, k, l)
 
@@ -165,7 +166,7 @@ module _ (net : Network) (r : memoryInRange net ≡ true) (k : ℕ) where
   unfolding step refuse_when_otherwise_
   deliver-6 h = simp (r, h)
 
-  pub deliver-limited : notPacket net k ≡ false → step (Deliver k) net ≡ limited (deliver k net)
+  pub deliver-limited : notPacket net k ≡ false → step (Deliver k) net ≡ limited net (deliver k net)
   unfolding step refuse_when_otherwise_
   deliver-limited h = simp (r, h)
 
@@ -181,23 +182,32 @@ module _ (net : Network) (r : memoryInRange net ≡ true) (k : ℕ) where
   unfolding step refuse_when_otherwise_
   duplicate-6 h = simp (r, h)
 
-  pub duplicate-limited : notPacket net k ≡ false → step (Duplicate k) net ≡ limited (effect 0 0 (send (packetAt net k ∷ []) net))
+  pub duplicate-limited : notPacket net k ≡ false → step (Duplicate k) net ≡ limited net (effect 0 0 (append (packetAt net k ∷ []) net))
   unfolding step refuse_when_otherwise_
   duplicate-limited h = simp (r, h)
 
--- 7, by the packets in the air and those sent.
-module _ (answer : ℕ) (packets : List Packet) (net : Network) where
-  sending-length : length (sending answer packets net .net .air) ≡ length (net .air) + length packets
-  unfolding sending send setAir
-  sending-length = length-append (net .air) packets
+-- 13 and 7, by what is told of the step: whether a station has used up its numbers, and the packets in the air after it.
+module _ (net : Network) (e : Effect) {used : Bool} {air number : ℕ} (u : usedUp net e ≡ used) (a : length (e .net .air) ≡ air)
+    (n : number ≡ (if used then 13 else if ltb airLimit air then 7 else 0)) where
+  pub limited-refused : number ≢ 0 → limited net e ≡ refused number
+  unfolding limited refuse_when_otherwise_
+  limited-refused h = go used u n (ltb airLimit air) (ap (ltb airLimit) a)
+    where
+      go : (x : Bool) → usedUp net e ≡ x → number ≡ (if x then 13 else if ltb airLimit air then 7 else 0) → (y : Bool) → ltb airLimit (length (e .net .air)) ≡ y
+          → limited net e ≡ refused number
+      go true p q y k = rw (p, q)
+      go false p q true k = rw (p, k, q, sym (ap (ltb airLimit) a) ∙ k)
+      go false p q false k = absurd (h (rw (q, sym (ap (ltb airLimit) a) ∙ k)))
 
-  pub sending-7 : airLimit < length (net .air) + length packets → limited (sending answer packets net) ≡ refused 7
-  unfolding limited
-  sending-7 h = refuse-holds 7 _ _ (lt-ltb airLimit (length (sending answer packets net .net .air)) (omega (arith, sending-length)))
-
-  pub sending-accepted : length (net .air) + length packets ≤ airLimit → limited (sending answer packets net) ≡ accepted (sending answer packets net)
-  unfolding limited
-  sending-accepted h = refuse-passes 7 _ _ (le-ltb airLimit (length (sending answer packets net .net .air)) (omega (arith, sending-length)))
+  pub limited-accepted : number ≡ 0 → limited net e ≡ accepted e
+  unfolding limited refuse_when_otherwise_
+  limited-accepted h = go used u n (ltb airLimit air) refl
+    where
+      go : (x : Bool) → usedUp net e ≡ x → number ≡ (if x then 13 else if ltb airLimit air then 7 else 0) → (y : Bool) → ltb airLimit air ≡ y
+          → limited net e ≡ accepted e
+      go true p q y k = absurd (omega arith)
+      go false p q true k = absurd (omega (arith, h, rw k at q))
+      go false p q false k = rw (p, a, k)
 
 -- A station sends no more errors than there are stations.
 pub errors-length : (net : Network) (a mask : ℕ) → length (errors net a mask) ≤ net .n

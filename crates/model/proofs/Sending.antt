@@ -12,13 +12,13 @@ use Rattle.base.specs.Lists.{removeAt}
 use Rattle.base.proofs.Booleans.{clash, neither, passes, choose, cases}
 use Rattle.base.proofs.Lists.{below-mem, keep-mem, mem-take, mem-drop}
 use Rattle.label.specs.declared.Label.{Label}
-use Rattle.model.specs.Memory.{Successor, Row, Body, error, Packet, Network, rowIn, pairPlace, linkIn, linkUp, setRows, setLinks, setAir, names, without}
-use Rattle.model.specs.Calls.{packet, send, sending, neighbours, copies, errors, takeOut}
+use Rattle.model.specs.Memory.{Successor, Row, Body, error, Packet, Network, rowIn, pairPlace, linkIn, linkUp, setRows, setLinks, setAir, setSerials, names, without}
+use Rattle.model.specs.Calls.{packet, append, nextSerial, send, sending, neighbours, copies, errors, takeOut}
 use Rattle.model.specs.Calls.{between, everyDestination, lost, parted, down, removePacket}
 use Rattle.model.proofs.Rows.{without-mem, without-names, takeOut-length, takeOut-either, takeOut-at, emptied-below}
 use Rattle.model.proofs.Links.{link-apart, link-set-up, link-other}
 use Rattle.model.proofs.Invariant.{BodyOk, Advertised, PacketOk, AirOk, CellOk, TablesOk, WellFormed}
-use Rattle.model.proofs.Invariant.{well-formed-links, well-formed-air, cell-keep, tables-links, air-links}
+use Rattle.model.proofs.Invariant.{well-formed-links, well-formed-air, well-formed-serials, cell-keep, tables-links, air-links}
 
 -- Packets in the air.
 module _ {Reachable : Type 0} {n : ℕ} {L : List Label} {K : List Bool} where
@@ -29,13 +29,18 @@ module _ {Reachable : Type 0} {n : ℕ} {L : List Label} {K : List Bool} where
   air-one p ok x k = subst (PacketOk Reachable n L K) (sym (List·Memᴰ·eq-of-singleton k)) ok
 
 module _ {Reachable : Type 0} (net : Network) (ok : WellFormed Reachable net) where
-  pub well-formed-send : (l : List Packet) → AirOk Reachable (net .n) (net .labels) (net .links) l → WellFormed Reachable (send l net)
-  unfolding send
-  well-formed-send l c = well-formed-air net ok (net .air ++ l) (air-append (net .air) l (ok .air) c)
+  pub well-formed-append : (l : List Packet) → AirOk Reachable (net .n) (net .labels) (net .links) l → WellFormed Reachable (append l net)
+  unfolding append
+  well-formed-append l c = well-formed-air net ok (net .air ++ l) (air-append (net .air) l (ok .air) c)
 
-  pub well-formed-sending : (k : ℕ) (l : List Packet) → AirOk Reachable (net .n) (net .labels) (net .links) l → WellFormed Reachable (sending k l net .net)
+module _ {Reachable : Type 0} (net : Network) (ok : WellFormed Reachable net) where
+  pub well-formed-send : (a : ℕ) (l : List Packet) → AirOk Reachable (net .n) (net .labels) (net .links) l → WellFormed Reachable (send a l net)
+  unfolding send setSerials
+  well-formed-send a l c = well-formed-append _ (well-formed-serials net ok _) l c
+
+  pub well-formed-sending : (k a : ℕ) (l : List Packet) → AirOk Reachable (net .n) (net .labels) (net .links) l → WellFormed Reachable (sending k a l net .net)
   unfolding sending
-  well-formed-sending k l c = well-formed-send l c
+  well-formed-sending k a l c = well-formed-send a l c
 
   pub well-formed-remove : (k : ℕ) → WellFormed Reachable (removePacket k net)
   unfolding removePacket
@@ -57,10 +62,10 @@ module _ {Reachable : Type 0} (net : Network) (a : ℕ) (ha : a < net .n) where
   pub copies-ok : (b : Body) → BodyOk (net .n) b → Advertised (net .labels) a b → AirOk Reachable (net .n) (net .labels) (net .links) (copies net a b)
   unfolding copies neighbours
   copies-ok b ok advertised p m =
-      let (x, k, e) = Memᴰ·of-map (λ x. packet a x b) (neighbours net a) m in
+      let (x, k, e) = Memᴰ·of-map (λ x. packet a x b (nextSerial net a)) (neighbours net a) m in
       subst (PacketOk Reachable (net .n) (net .labels) (net .links)) e (one x (below-mem (net .n) (linkUp net a) k))
     where
-      one : (x : ℕ) → (x < net .n) × (linkUp net a x ≡ true) → PacketOk Reachable (net .n) (net .labels) (net .links) (packet a x b)
+      one : (x : ℕ) → (x < net .n) × (linkUp net a x ≡ true) → PacketOk Reachable (net .n) (net .labels) (net .links) (packet a x b (nextSerial net a))
       one x h = record {
         sender-below = ha;
         receiver-below = h .0;
@@ -160,10 +165,11 @@ module _ {Reachable : Type 0} (a b : ℕ) (net : Network) (ok : WellFormed Reach
   }
 
   pub well-formed-down : WellFormed Reachable (down a b net .net)
-  unfolding down parted lost setRows setAir setLinks
+  unfolding down parted lost send append setRows setAir setLinks setSerials
   well-formed-down =
       let cut = parted a b net in
-      well-formed-sending cut well-formed-parted 0 (errors cut a (lost net a b) ++ errors cut b (lost net b a))
-      (air-append (errors cut a (lost net a b)) (errors cut b (lost net b a))
-      (errors-ok cut a ha (lost net a b) (emptied-below everyDestination (names b) a (net .n) (net .rows)))
-      (errors-ok cut b hb (lost net b a) (emptied-below everyDestination (names a) b (net .n) (net .rows))))
+      well-formed-send _
+      (well-formed-send cut well-formed-parted a (errors cut a (lost net a b))
+      (errors-ok cut a ha (lost net a b) (emptied-below everyDestination (names b) a (net .n) (net .rows))))
+      b (errors cut b (lost net b a))
+      (errors-ok cut b hb (lost net b a) (emptied-below everyDestination (names a) b (net .n) (net .rows)))

@@ -20,7 +20,7 @@ use Rattle.model.proofs.Invariant.{WellFormed, well-formed-numbers, wel
 use Rattle.model.proofs.Range.{Invariant, invariant-in-range, in-range-invariant}
 use Rattle.model.proofs.Fresh.{fresh-invariant}
 use Rattle.model.proofs.Refusals.{opening-tells, pair-tells, packet-tells}
-use Rattle.model.proofs.Sending.{air-one, well-formed-send, well-formed-sending, copies-ok, well-formed-remove, well-formed-up, well-formed-down}
+use Rattle.model.proofs.Sending.{air-one, well-formed-append, well-formed-sending, copies-ok, well-formed-remove, well-formed-up, well-formed-down}
 use Rattle.model.proofs.Delivery.{well-formed-deliver}
 
 -- What the calls that send nothing do.
@@ -47,7 +47,7 @@ module _ {Reachable : Type 0} (net : Network) (inv : Invariant Reachable net) wh
 well-formed-solicit : {Reachable : Type 0} (a t : ℕ) (net : Network) → WellFormed Reachable net → a < net .n → t < net .n → WellFormed Reachable (solicit a t net .net)
 unfolding solicit setActives setSoughts setNumbers
 well-formed-solicit a t net ok ha ht =
-    well-formed-sending _ (well-formed-actives _ (well-formed-sought _ (well-formed-numbers net ok _) a t ht) _) 0 _
+    well-formed-sending _ (well-formed-actives _ (well-formed-sought _ (well-formed-numbers net ok _) a t ht) _) 0 a _
     (copies-ok net a ha _ (record { source-below = ha; numbered = omega arith; destination-below = ht; ranged = ok .tables .cell a t ha ht .ranged }) tt)
 
 opening-invariant : {Reachable : Type 0} (n start : ℕ) → notOpening n start ≡ false → Invariant Reachable (fresh n start)
@@ -63,9 +63,9 @@ module _ {Reachable : Type 0} (net : Network) (inv : Invariant Reachable net) wh
   unfolding after
   invariant-accept e h = h
 
-  invariant-limited : (e : Effect) → WellFormed Reachable (e .net) → Invariant Reachable (after net (limited e))
+  invariant-limited : (e : Effect) → WellFormed Reachable (e .net) → Invariant Reachable (after net (limited net e))
   unfolding limited
-  invariant-limited e ok = invariant-refuse 7 _ _ (λ q. invariant-accept e (record { formed = ok; room = omega (arith, ltb-false _ (length (e .net .air)) q) }))
+  invariant-limited e ok = invariant-refuse 13 _ _ (λ k. invariant-refuse 7 _ _ (λ q. invariant-accept e (record { formed = ok; room = omega (arith, ltb-false _ (length (e .net .air)) q) })))
 
   -- Tests 1 and 2, and tests 1 and 6.
   invariant-pair : (a b : ℕ) (r : Result Effect) → (a < net .n → b < net .n → Invariant Reachable (after net r))
@@ -94,7 +94,7 @@ module _ {Reachable : Type 0} (net : Network) (inv : Invariant Reachable net) wh
   invariant-step (Lose k) = invariant-packet net inv k _ (λ h. invariant-accept net inv _ (invariant-remove _ inv k))
   invariant-step (Duplicate k) =
       invariant-packet net inv k _ (λ h. invariant-limited net inv _
-      (well-formed-send _ (inv .formed) _ (air-one _ (inv .formed .air _ (mem-at (net .air) k zeroPacket h)))))
+      (well-formed-append _ (inv .formed) _ (air-one _ (inv .formed .air _ (mem-at (net .air) k zeroPacket h)))))
 
 pub invariant-run : {Reachable : Type 0} (calls : List Call) (net : Network) → Invariant Reachable net → Invariant Reachable (run calls net)
 unfolding run

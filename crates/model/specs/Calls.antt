@@ -5,14 +5,14 @@ use mathlib.Core.List.{List, [], _∷_, _++_, map}
 use lib.ListN.{length, set}
 use lib.Dec.{ltb, leb, eqb}
 use Rattle.base.specs.Choice.{if_then_else_}
-use Rattle.base.specs.Numbers.{maxU32}
+use Rattle.base.specs.Numbers.{maxU32, maxU64}
 use Rattle.base.specs.Lists.{someBelow, below, someIn, keep, isEmpty, removeAt}
 use Rattle.base.specs.Results.{Result, refused, accepted, refuse_when_otherwise_}
 use Rattle.label.specs.declared.Label.{Label}
 use Rattle.label.specs.Label.{label, unassigned, isUnassigned, above, Outcome, took, gave, newLabel}
 use Rattle.model.specs.Memory.{Successor, Row, Record, Request, Reply, Body, request, reply, error, other, Packet, Network}
-use Rattle.model.specs.Memory.{place, rowIn, labelAt, rowAt, recordAt, linkUp, requestNumberAt, soughtAt, isActive, packetAt}
-use Rattle.model.specs.Memory.{setLabel, setRows, setRow, setRecord, setLink, setNumber, setSought, setActive, setAir}
+use Rattle.model.specs.Memory.{place, rowIn, labelAt, rowAt, recordAt, linkUp, requestNumberAt, soughtAt, isActive, serialAt, packetAt}
+use Rattle.model.specs.Memory.{setLabel, setRows, setRow, setRecord, setLink, setNumber, setSought, setActive, setAir, setSerial}
 use Rattle.model.specs.Memory.{fresh, names, without, under, put, airLimit, sizeInRange, memoryInRange}
 
 -- The calls of 01's "The list in demand 3", "with any arguments".
@@ -38,9 +38,14 @@ unfoldable pub after : Network → Result Effect → Network
 after net (refused number) = net
 after net (accepted e) = e .net
 
--- 7: "more than 128 packets after the call".
-unfoldable pub limited : Effect → Result Effect
-limited e =
+-- 13: "a station that would send has used 2^64 − 1" (02, F-4). A station sends where its last number is counted on.
+unfoldable pub usedUp : Network → Effect → Bool
+usedUp net e = someBelow (net .n) (λ a. leb maxU64 (serialAt net a) && ltb (serialAt net a) (serialAt (e .net) a))
+
+-- "tested after 8, before 7"; 7: "more than 128 packets after the call".
+unfoldable pub limited : Network → Effect → Result Effect
+limited net e =
+    refuse 13 when usedUp net e otherwise
     refuse 7 when ltb airLimit (length (e .net .air)) otherwise
     accepted e
 
@@ -57,22 +62,34 @@ notPacket net k = leb (length (net .air)) k
 
 -- Sending.
 
-abbrev pub packet : ℕ → ℕ → Body → Packet
-packet sender receiver body = record { sender = sender; receiver = receiver; body = body }
+abbrev pub packet : ℕ → ℕ → Body → (serial : ℕ) → Packet
+packet sender receiver body serial = record { sender = sender; receiver = receiver; body = body; serial = serial }
 
-unfoldable pub send : List Packet → Network → Network
-send packets net = setAir (net .air ++ packets) net
+-- These packets at the end, in their order.
+unfoldable pub append : List Packet → Network → Network
+append packets net = setAir (net .air ++ packets) net
 
--- The effect of sending these packets at the end, in their order.
-unfoldable pub sending : ℕ → List Packet → Network → Effect
-sending answer packets net = effect answer (length packets) (send packets net)
+-- "Each station now numbers its sendings from 1" (02, F-4): the number of its next one.
+abbrev pub nextSerial : Network → ℕ → ℕ
+nextSerial net a = serialAt net a + 1
+
+-- "one number for a broadcast, none for a broadcast with no up neighbour" (02, F-4): the last number of a station that sends so many packets.
+unfoldable pub countOn : (last sent : ℕ) → ℕ
+countOn last sent = if eqb sent 0 then last else last + 1
+
+-- Station a sends these packets.
+unfoldable pub send : ℕ → List Packet → Network → Network
+send a packets net = append packets (setSerial a (countOn (serialAt net a) (length packets)) net)
+
+unfoldable pub sending : ℕ → ℕ → List Packet → Network → Effect
+sending answer a packets net = effect answer (length packets) (send a packets net)
 
 unfoldable pub neighbours : Network → ℕ → List ℕ
 neighbours net a = below (net .n) (linkUp net a)
 
 -- "'Broadcast' appends one copy for each up neighbour, ascending."
 unfoldable pub copies : Network → ℕ → Body → List Packet
-copies net a body = map (λ b. packet a b body) (neighbours net a)
+copies net a body = map (λ b. packet a b body (nextSerial net a)) (neighbours net a)
 
 -- An "error with the mask of its rows emptied, if any".
 unfoldable pub errors : Network → ℕ → ℕ → List Packet
@@ -125,14 +142,16 @@ parted a b net =
 unfoldable pub down : ℕ → ℕ → Network → Effect
 down a b net =
     let cut = parted a b net in
-    sending 0 (errors cut a (lost net a b) ++ errors cut b (lost net b a)) cut
+    let first = errors cut a (lost net a b) in
+    let second = errors cut b (lost net b a) in
+    effect 0 (length first + length second) (send b second (send a first cut))
 
 -- Solicit: "number + 1, t kept as last sought, a active, broadcasts a request with its label for t, reset bit 0".
 unfoldable pub solicit : ℕ → ℕ → Network → Effect
 solicit a t net =
     let number = requestNumberAt net a + 1 in
     let R : Request = record { source = a; number = number; destination = t; label = labelAt net a t; reset = false } in
-    sending 0 (copies net a (request R)) (setActive a true (setSought a t (setNumber a number net)))
+    sending 0 a (copies net a (request R)) (setActive a true (setSought a t (setNumber a number net)))
 
 -- A request R from j, delivered to i.
 
@@ -147,7 +166,7 @@ markPassed r = record { number = r .number; destination = r .destination; cached
 unfoldable pub replyTo : ℕ → ℕ → ℕ → (source number destination : ℕ) → Network → Effect
 replyTo answer i x source number destination net =
     let v : Reply = record { source = source; number = number; destination = destination; label = labelAt net i destination } in
-    sending answer (packet i x (reply v) ∷ []) (setRecord i source (markPassed (recordAt net i source)) net)
+    sending answer i (packet i x (reply v) (nextSerial net i) ∷ []) (setRecord i source (markPassed (recordAt net i source)) net)
 
 -- "If i is the destination: with the reset bit set and own s ≤ R's s".
 unfoldable pub resets : Label → Request → Bool
@@ -194,7 +213,7 @@ engage i j R net =
     let t = R .destination in
     if eqb i t then atDestination i j R net
     else if canReply (labelAt net i t) (rowAt net i t) R then replyTo 102 i j (R .source) (R .number) t net
-    else sending 103 (copies net i (request (onward (labelAt net i t) R))) net
+    else sending 103 i (copies net i (request (onward (labelAt net i t) R))) net
 
 -- "101, nothing done, if i is the source or i's record for the source has a number not below R's."
 unfoldable pub onRequest : ℕ → ℕ → Request → Network → Effect
@@ -202,7 +221,7 @@ onRequest i j R net =
     if eqb i (R .source) || leb (R .number) (recordAt net i (R .source) .number) then effect 101 0 net
     else engage i j R (setRecord i (R .source) (recorded j R) net)
 
--- A reply V from j, delivered to i.
+-- A reply V from j, of this serial number, delivered to i.
 
 -- "V's number and destination .. both match (at the source: its last request; elsewhere: its record)".
 unfoldable pub matches : ℕ → Reply → Network → Bool
@@ -216,11 +235,11 @@ unfoldable pub cachedAt : ℕ → Reply → Network → Label
 cachedAt i v net = if eqb i (v .source) then unassigned else recordAt net i (v .source) .cached
 
 -- "the label is taken; first, successors whose stored label it isn't above leave the row, j too; then j's entry, if still there, is replaced
--- in its own place, else appended last, the first entry leaving a full row".
-unfoldable pub adopt : ℕ → ℕ → Reply → Label → Network → Network
-adopt i j v g net =
+-- in its own place, else appended last, the first entry leaving a full row". "A row entry keeps the number of the reply that made it" (02, F-4).
+unfoldable pub adopt : (i j serial : ℕ) → Reply → Label → Network → Network
+adopt i j serial v g net =
     let t = v .destination in
-    setRow i t (put (record { station = j; label = v .label }) (under g (rowAt net i t))) (setLabel i t g net)
+    setRow i t (put (record { station = j; label = v .label; serial = serial }) (under g (rowAt net i t))) (setLabel i t g net)
 
 -- "a source becomes passive".
 unfoldable pub settle : ℕ → Reply → Network → Network
@@ -242,17 +261,17 @@ passOn answer i v net =
     else effect answer 0 net
 
 -- "112, 113, 114 set nothing. Otherwise 115".
-unfoldable pub onOutcome : ℕ → ℕ → Reply → Outcome → Network → Effect
-onOutcome i j v (gave number) net = passOn number i v net
-onOutcome i j v (took g) net = passOn 115 i v (settle i v (adopt i j v g net))
+unfoldable pub onOutcome : (i j serial : ℕ) → Reply → Outcome → Network → Effect
+onOutcome i j serial v (gave number) net = passOn number i v net
+onOutcome i j serial v (took g) net = passOn 115 i v (settle i v (adopt i j serial v g net))
 
 -- "111, nothing done, if i is the destination, or V's number and destination don't both match".
-unfoldable pub onReply : ℕ → ℕ → Reply → Network → Effect
-onReply i j v net =
+unfoldable pub onReply : (i j serial : ℕ) → Reply → Network → Effect
+onReply i j serial v net =
     if eqb i (v .destination) || not (matches i v net) then effect 111 0 net
-    else onOutcome i j v (newLabel (labelAt net i (v .destination)) (cachedAt i v net) (v .label)) net
+    else onOutcome i j serial v (newLabel (labelAt net i (v .destination)) (cachedAt i v net) (v .label)) net
 
--- An error from j, delivered to i.
+-- An error from j, of this serial number, delivered to i.
 
 -- "weight 2^t for destination t".
 unfoldable pub bit : ℕ → ℕ → Bool
@@ -265,31 +284,36 @@ errorOutcome removed mask =
     else if eqb mask 0 then 122
     else 123
 
+-- "An error with a lower number leaves that entry in place" (02, F-4): the entries that it takes out.
+unfoldable pub withdrawn : (j serial : ℕ) → Successor → Bool
+withdrawn j serial e = names j e && not (ltb serial (e .serial))
+
 -- "j leaves each row i holds for a masked destination .. and i broadcasts an error masking those".
-unfoldable pub onError : ℕ → ℕ → ℕ → Network → Effect
-onError i j mask net =
-    let removed = removes (bit mask) (names j) i (net .n) (net .rows) in
-    let gone = emptied (bit mask) (names j) i (net .n) (net .rows) in
-    let rows = takeOut (bit mask) (names j) i (net .n) (net .rows) in
-    sending (errorOutcome removed gone) (errors net i gone) (setRows rows net)
+unfoldable pub onError : (i j serial mask : ℕ) → Network → Effect
+onError i j serial mask net =
+    let removed = removes (bit mask) (withdrawn j serial) i (net .n) (net .rows) in
+    let gone = emptied (bit mask) (withdrawn j serial) i (net .n) (net .rows) in
+    let rows = takeOut (bit mask) (withdrawn j serial) i (net .n) (net .rows) in
+    sending (errorOutcome removed gone) i (errors net i gone) (setRows rows net)
 
 -- Deliver: "removes packet k, later ones move up, then the receiver i acts". Memory in range has no packet of another kind.
 
 unfoldable pub removePacket : ℕ → Network → Network
 removePacket k net = setAir (removeAt k (net .air)) net
 
-unfoldable pub receive : ℕ → ℕ → Body → Network → Effect
-receive i j (request R) net = onRequest i j R net
-receive i j (reply v) net = onReply i j v net
-receive i j (error mask) net = onError i j mask net
-receive i j (other kind) net = effect 0 0 net
+unfoldable pub receive : (i j serial : ℕ) → Body → Network → Effect
+receive i j serial (request R) net = onRequest i j R net
+receive i j serial (reply v) net = onReply i j serial v net
+receive i j serial (error mask) net = onError i j serial mask net
+receive i j serial (other kind) net = effect 0 0 net
 
 unfoldable pub deliver : ℕ → Network → Effect
 deliver k net =
     let p = packetAt net k in
-    receive (p .receiver) (p .sender) (p .body) (removePacket k net)
+    receive (p .receiver) (p .sender) (p .serial) (p .body) (removePacket k net)
 
--- The calls. "Calls test 1, 2, 3 to 6, 8, 7." Only Down, Solicit, Deliver and Duplicate add to the air, so only they test 7.
+-- The calls. "Calls test 1, 2, 3 to 6, 8, 7." Only Down, Solicit, Deliver and Duplicate add to the air, so only they test 13 and 7; a duplicate is
+-- nobody's sending, "and a duplicate keeps it" (02, F-4), its number.
 
 -- Open: "fresh memory. It reads no earlier memory and tests 1 for n, start and, at the console, the slice's length only."
 unfoldable pub notOpening : (n start : ℕ) → Bool
@@ -311,13 +335,13 @@ step (Down a b) net =
     refuse 1 when not (memoryInRange net) otherwise
     refuse 2 when notPair net a b otherwise
     refuse 3 when not (linkUp net a b) otherwise
-    limited (down a b net)
+    limited net (down a b net)
 step (Solicit a t) net =
     refuse 1 when not (memoryInRange net) otherwise
     refuse 2 when notPair net a t otherwise
     refuse 4 when isActive net a otherwise
     refuse 8 when leb maxU32 (requestNumberAt net a) otherwise
-    limited (solicit a t net)
+    limited net (solicit a t net)
 step (GiveUp a) net =
     refuse 1 when not (memoryInRange net) otherwise
     refuse 2 when notStation net a otherwise
@@ -330,7 +354,7 @@ step (Expire a t) net =
 step (Deliver k) net =
     refuse 1 when not (memoryInRange net) otherwise
     refuse 6 when notPacket net k otherwise
-    limited (deliver k net)
+    limited net (deliver k net)
 step (Lose k) net =
     refuse 1 when not (memoryInRange net) otherwise
     refuse 6 when notPacket net k otherwise
@@ -338,7 +362,7 @@ step (Lose k) net =
 step (Duplicate k) net =
     refuse 1 when not (memoryInRange net) otherwise
     refuse 6 when notPacket net k otherwise
-    limited (effect 0 0 (send (packetAt net k ∷ []) net))
+    limited net (effect 0 0 (append (packetAt net k ∷ []) net))
 
 -- "Each call gets the memory that the one before it returned or left".
 unfoldable pub run : List Call → Network → Network

@@ -10,10 +10,11 @@ use Rattle.base.specs.Lists.{allBelow, allIn, someIn, keep, isEmpty, distinct}
 use Rattle.label.specs.declared.Label.{Label}
 use Rattle.label.specs.Label.{label, unassigned, inRange, above}
 
--- "a row of up to 4 successors, each a station with the label it advertised".
+-- "a row of up to 4 successors, each a station with the label it advertised". "A row entry keeps the number of the reply that made it" (02, F-4).
 pub record Successor : Type 0 where
   pub station : ℕ
   pub label : Label
+  pub serial : ℕ
 
 abbrev pub Row : Type 0
 Row = List Successor
@@ -48,15 +49,16 @@ pub data Body : Type 0 where
   error : (mask : ℕ) → Body
   other : (kind : ℕ) → Body
 
--- "Each has sender, receiver and kind".
+-- "Each has sender, receiver and kind". "Each packet carries its sending's number" (02, F-4).
 pub record Packet : Type 0 where
   pub sender : ℕ
   pub receiver : ℕ
   pub body : Body
+  pub serial : ℕ
 
 -- "Stations are 0..n−1." Labels and rows have a place for each station and destination, records for each station and source, links for each
 -- pair; last request numbers, destinations last sought and who is active have one for each station. "The packets in the air stand in the
--- order they were sent".
+-- order they were sent". "Each station now numbers its sendings from 1" (02, F-4): the number of the last one stands for each station.
 pub record Network : Type 0 where
   pub n : ℕ
   pub labels : List Label
@@ -67,6 +69,7 @@ pub record Network : Type 0 where
   pub sought : List ℕ
   pub active : List Bool
   pub air : List Packet
+  pub serials : List ℕ
 
 -- The tables have their sizes, as the arrays that stand for them do.
 pub record Sized (net : Network) : Type 0 where
@@ -87,7 +90,7 @@ unfoldable pub zeroRecord : Record
 zeroRecord = record { number = 0; destination = 0; cached = zeroLabel; lastHop = 0; passed = false }
 
 unfoldable pub zeroPacket : Packet
-zeroPacket = record { sender = 0; receiver = 0; body = other 0 }
+zeroPacket = record { sender = 0; receiver = 0; body = other 0; serial = 0 }
 
 abbrev pub labelIn : List Label → ℕ → ℕ → Label
 labelIn l i t = getD l (place i t) zeroLabel
@@ -126,33 +129,39 @@ soughtAt net i = getD (net .sought) i 0
 abbrev pub isActive : Network → ℕ → Bool
 isActive net i = getD (net .active) i false
 
+abbrev pub serialAt : Network → ℕ → ℕ
+serialAt net i = getD (net .serials) i 0
+
 abbrev pub packetAt : Network → ℕ → Packet
 packetAt net k = getD (net .air) k zeroPacket
 
 -- Writing: one setter for each field, and from them one for each kind of place.
 unfoldable pub setLabels : List Label → Network → Network
-setLabels l net = record { n = net .n; labels = l; rows = net .rows; records = net .records; links = net .links; numbers = net .numbers; sought = net .sought; active = net .active; air = net .air }
+setLabels l net = record { n = net .n; labels = l; rows = net .rows; records = net .records; links = net .links; numbers = net .numbers; sought = net .sought; active = net .active; air = net .air; serials = net .serials }
 
 unfoldable pub setRows : List Row → Network → Network
-setRows l net = record { n = net .n; labels = net .labels; rows = l; records = net .records; links = net .links; numbers = net .numbers; sought = net .sought; active = net .active; air = net .air }
+setRows l net = record { n = net .n; labels = net .labels; rows = l; records = net .records; links = net .links; numbers = net .numbers; sought = net .sought; active = net .active; air = net .air; serials = net .serials }
 
 unfoldable pub setRecords : List Record → Network → Network
-setRecords l net = record { n = net .n; labels = net .labels; rows = net .rows; records = l; links = net .links; numbers = net .numbers; sought = net .sought; active = net .active; air = net .air }
+setRecords l net = record { n = net .n; labels = net .labels; rows = net .rows; records = l; links = net .links; numbers = net .numbers; sought = net .sought; active = net .active; air = net .air; serials = net .serials }
 
 unfoldable pub setLinks : List Bool → Network → Network
-setLinks l net = record { n = net .n; labels = net .labels; rows = net .rows; records = net .records; links = l; numbers = net .numbers; sought = net .sought; active = net .active; air = net .air }
+setLinks l net = record { n = net .n; labels = net .labels; rows = net .rows; records = net .records; links = l; numbers = net .numbers; sought = net .sought; active = net .active; air = net .air; serials = net .serials }
 
 unfoldable pub setNumbers : List ℕ → Network → Network
-setNumbers l net = record { n = net .n; labels = net .labels; rows = net .rows; records = net .records; links = net .links; numbers = l; sought = net .sought; active = net .active; air = net .air }
+setNumbers l net = record { n = net .n; labels = net .labels; rows = net .rows; records = net .records; links = net .links; numbers = l; sought = net .sought; active = net .active; air = net .air; serials = net .serials }
 
 unfoldable pub setSoughts : List ℕ → Network → Network
-setSoughts l net = record { n = net .n; labels = net .labels; rows = net .rows; records = net .records; links = net .links; numbers = net .numbers; sought = l; active = net .active; air = net .air }
+setSoughts l net = record { n = net .n; labels = net .labels; rows = net .rows; records = net .records; links = net .links; numbers = net .numbers; sought = l; active = net .active; air = net .air; serials = net .serials }
 
 unfoldable pub setActives : List Bool → Network → Network
-setActives l net = record { n = net .n; labels = net .labels; rows = net .rows; records = net .records; links = net .links; numbers = net .numbers; sought = net .sought; active = l; air = net .air }
+setActives l net = record { n = net .n; labels = net .labels; rows = net .rows; records = net .records; links = net .links; numbers = net .numbers; sought = net .sought; active = l; air = net .air; serials = net .serials }
 
 unfoldable pub setAir : List Packet → Network → Network
-setAir l net = record { n = net .n; labels = net .labels; rows = net .rows; records = net .records; links = net .links; numbers = net .numbers; sought = net .sought; active = net .active; air = l }
+setAir l net = record { n = net .n; labels = net .labels; rows = net .rows; records = net .records; links = net .links; numbers = net .numbers; sought = net .sought; active = net .active; air = l; serials = net .serials }
+
+unfoldable pub setSerials : List ℕ → Network → Network
+setSerials l net = record { n = net .n; labels = net .labels; rows = net .rows; records = net .records; links = net .links; numbers = net .numbers; sought = net .sought; active = net .active; air = net .air; serials = l }
 
 abbrev pub setLabel : ℕ → ℕ → Label → Network → Network
 setLabel i t l net = setLabels (set (net .labels) (place i t) l) net
@@ -175,6 +184,9 @@ setSought i t net = setSoughts (set (net .sought) i t) net
 abbrev pub setActive : ℕ → Bool → Network → Network
 setActive i b net = setActives (set (net .active) i b) net
 
+abbrev pub setSerial : ℕ → ℕ → Network → Network
+setSerial i k net = setSerials (set (net .serials) i k) net
+
 -- Fresh memory. "Station t's label for itself is (start, 0/1), its own row stays empty. All other labels start unassigned."
 unfoldable pub freshLabels : ℕ → ℕ → List Label
 freshLabels start zero = replicate 256 unassigned
@@ -184,7 +196,7 @@ freshLabels start (suc t) = set (freshLabels start t) (place t t) (label start 0
 unfoldable pub freshRecord : Record
 freshRecord = record { number = 0; destination = 0; cached = unassigned; lastHop = 0; passed = false }
 
--- "all start down"; "last request number (32 bits, from 0)"; "every station is passive with last sought 0".
+-- "all start down"; "last request number (32 bits, from 0)"; "every station is passive with last sought 0". Sendings are numbered from 1, so the last is 0.
 unfoldable pub fresh : ℕ → ℕ → Network
 fresh n start = record {
   n = n;
@@ -196,6 +208,7 @@ fresh n start = record {
   sought = replicate 16 0;
   active = replicate 16 false;
   air = [];
+  serials = replicate 16 0;
 }
 
 -- Rows.

@@ -2,16 +2,16 @@
 use Prim.Native.Nat.{ℕ}
 use mathlib.Core.Path.{_≡_, refl}
 use mathlib.Core.List.{List, [], _∷_}
-use Rattle.base.specs.Lists.{allBelow, below, allIn, someIn, keep, isEmpty, tabulate, distinct}
+use Rattle.base.specs.Lists.{allBelow, someBelow, below, allIn, someIn, keep, isEmpty, tabulate, distinct}
 use Rattle.base.specs.Results.{refuse_when_otherwise_}
 use Rattle.label.specs.Label.{label, unassigned, isUnassigned, inRange, above, fitting, next, split, newLabel}
 use Rattle.model.specs.Memory.{zeroLabel, zeroRecord, zeroPacket, linkIn}
-use Rattle.model.specs.Memory.{setLabels, setRows, setRecords, setLinks, setNumbers, setSoughts, setActives, setAir, freshLabels, freshRecord, fresh}
+use Rattle.model.specs.Memory.{setLabels, setRows, setRecords, setLinks, setNumbers, setSoughts, setActives, setAir, setSerials, freshLabels, freshRecord, fresh}
 use Rattle.model.specs.Memory.{names, without, under, replace, withRoom, put}
 use Rattle.model.specs.Memory.{successorInRange, rowInRange, recordInRange, ownInRange, cellInRange, stationInRange}
 use Rattle.model.specs.Memory.{headInRange, bodyInRange, packetInRange, airInRange, sizeInRange, memoryInRange}
-use Rattle.model.specs.Calls.{after, limited, notStation, notPair, notPacket, step, run}
-use Rattle.model.specs.Calls.{send, sending, neighbours, copies, solicit, removePacket, receive, deliver}
+use Rattle.model.specs.Calls.{after, usedUp, limited, notStation, notPair, notPacket, step, run}
+use Rattle.model.specs.Calls.{append, countOn, send, sending, neighbours, copies, solicit, removePacket, receive, deliver}
 use Rattle.model.specs.Calls.{recorded, markPassed, replyTo, resets, atDestination, canReply, onwardLabel, onwardReset, onward, engage, onRequest}
 use Rattle.model.specs.Calls.{matches, cachedAt, adopt, settle, passesOn, passOn, onOutcome, onReply, nextOf, follow, trace}
 use Rattle.model.specs.Events.{usesOne, notEvent, callOf, eventOf, eventAt, callsIn, afterEvents}
@@ -41,10 +41,10 @@ unfoldable pub routes : List LabelLine
 routes = labelLine 1 0 (label 1 1 2) (0 ∷ []) ∷ labelLine 2 0 (label 1 2 3) (1 ∷ []) ∷ []
 
 pub prints : (eventLines (fresh 3 1) kinds operands ≡ lines) × (routeLines (fresh 3 1) kinds operands ≡ routes)
-unfolding eventLines lineAt lineOf resultLine routeLines labelLines stationLines labelLineAt isListed afterEvents kinds operands lines routes callsIn run eventAt eventOf callOf notEvent usesOne tabulate step after refuse_when_otherwise_ limited notStation notPair notPacket sizeInRange memoryInRange stationInRange airInRange
-    cellInRange rowInRange recordInRange ownInRange headInRange bodyInRange packetInRange successorInRange allBelow below allIn someIn keep
+unfolding eventLines lineAt lineOf resultLine routeLines labelLines stationLines labelLineAt isListed afterEvents kinds operands lines routes callsIn run eventAt eventOf callOf notEvent usesOne tabulate step after refuse_when_otherwise_ usedUp limited notStation notPair notPacket sizeInRange memoryInRange stationInRange airInRange
+    cellInRange rowInRange recordInRange ownInRange headInRange bodyInRange packetInRange successorInRange allBelow someBelow below allIn someIn keep
     isEmpty distinct unassigned isUnassigned inRange above fitting next split newLabel zeroLabel zeroRecord zeroPacket linkIn setLabels
-    setRows setRecords setLinks setNumbers setSoughts setActives setAir freshLabels freshRecord fresh names without under replace withRoom
-    put send sending neighbours copies solicit recorded markPassed replyTo resets atDestination canReply onwardLabel onwardReset onward
+    setRows setRecords setLinks setNumbers setSoughts setActives setAir setSerials freshLabels freshRecord fresh names without under replace withRoom
+    put append countOn send sending neighbours copies solicit recorded markPassed replyTo resets atDestination canReply onwardLabel onwardReset onward
     engage onRequest matches cachedAt adopt settle passesOn passOn onOutcome onReply removePacket receive deliver nextOf follow trace
 prints = (refl, refl)

@@ -51,14 +51,16 @@ label-bounds l values valid = record { s-below = valid .1 .1 .0 .1 .1 .0 .1; m-b
 
 pub record PacketBounds (p : Packet) : Type 0 where
   pub label : LabelBounds (p .label)
+  pub serial-below : p .serial < 2 ^ 64
   pub number-below : p .number .0 < 2 ^ 32
   pub mask-below : p .mask < 2 ^ 16
 
 pub packet-bounds : (p : Packet) → ValidPacket p → PacketBounds p
 packet-bounds p valid = record {
   label = label-bounds (p .label) _ (valid .1 .1 .0);
-  number-below = valid .1 .1 .1 .0 .1 .1 .0 .1;
-  mask-below = valid .1 .1 .1 .1 .0 .1;
+  serial-below = valid .1 .1 .1 .0 .1;
+  number-below = valid .1 .1 .1 .1 .0 .1 .1 .0 .1;
+  mask-below = valid .1 .1 .1 .1 .1 .0 .1;
 }
 
 pub array-length : (l : List Packet) → ValidPackets l → length l ≡ airLimit
@@ -74,10 +76,11 @@ memory-lengths m valid = record {
   d-length = unmapped _ (m .d) 256 (valid .1 .1 .1 .1 .0 .1 .0 .1);
   rows-length = unmapped _ (m .rows) 256 (valid .1 .1 .1 .1 .1 .0 .1 .0 .1);
   records-length = unmapped _ (m .records) 256 (valid .1 .1 .1 .1 .1 .1 .0 .1 .0 .1);
-  numbers-length = unmapped _ (m .numbers) 16 (valid .1 .1 .1 .1 .1 .1 .1 .0 .1 .0 .1);
-  sought-length = unmapped _ (m .sought) 16 (valid .1 .1 .1 .1 .1 .1 .1 .1 .0 .1 .0 .1);
-  active-length = unmapped _ (m .active) 16 (valid .1 .1 .1 .1 .1 .1 .1 .1 .1 .0 .1 .0 .1);
-  air-length = unmapped _ (m .air .packets) airLimit (valid .1 .1 .1 .1 .1 .1 .1 .1 .1 .1 .1 .0 .1 .1 .0 .1 .0 .1);
+  serials-length = unmapped _ (m .serials) 16 (valid .1 .1 .1 .1 .1 .1 .1 .0 .1 .0 .1);
+  numbers-length = unmapped _ (m .numbers) 16 (valid .1 .1 .1 .1 .1 .1 .1 .1 .0 .1 .0 .1);
+  sought-length = unmapped _ (m .sought) 16 (valid .1 .1 .1 .1 .1 .1 .1 .1 .1 .0 .1 .0 .1);
+  active-length = unmapped _ (m .active) 16 (valid .1 .1 .1 .1 .1 .1 .1 .1 .1 .1 .0 .1 .0 .1);
+  air-length = unmapped _ (m .air .packets) airLimit (valid .1 .1 .1 .1 .1 .1 .1 .1 .1 .1 .1 .1 .0 .1 .1 .0 .1 .0 .1);
 }
 
 -- So the model's tables have their sizes.

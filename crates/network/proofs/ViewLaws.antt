@@ -105,6 +105,7 @@ pub view-fresh : (n start : ℕ) (s m d : List ℕ) (row : Row) (kept : Record) 
       d = d;
       rows = replicate 256 row;
       records = replicate 256 kept;
+      serials = replicate 16 0;
       air = air;
       numbers = replicate 16 zeroNumber;
       sought = replicate 16 0;

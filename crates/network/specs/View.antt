@@ -28,7 +28,7 @@ abbrev pub zeroRecord : Record
 zeroRecord = record { cached = label 0 0 0; number = zeroNumber; destination = 0; «last_hop» = 0; passed = false }
 
 abbrev pub zeroPacket : Packet
-zeroPacket = record { label = label 0 0 0; number = zeroNumber; mask = 0; kind = 0; sender = 0; receiver = 0; source = 0; destination = 0; reset = false }
+zeroPacket = record { label = label 0 0 0; serial = 0; number = zeroNumber; mask = 0; kind = 0; sender = 0; receiver = 0; source = 0; destination = 0; reset = false }
 
 unfoldable pub recordOf : Record → model.Record
 recordOf r = record { number = r .number .0; destination = r .destination; cached = r .cached; lastHop = r .«last_hop»; passed = r .passed }
@@ -48,7 +48,22 @@ bodyOf p =
     else model.other (p .kind)
 
 unfoldable pub packetOf : Packet → model.Packet
-packetOf p = record { sender = p .sender; receiver = p .receiver; body = bodyOf p }
+packetOf p = record { sender = p .sender; receiver = p .receiver; body = bodyOf p; serial = p .serial }
+
+-- The packet with this serial number.
+abbrev pub numbered : Packet → (serial : ℕ) → Packet
+numbered p serial = record {
+  label = p .label;
+  serial = serial;
+  number = p .number;
+  mask = p .mask;
+  kind = p .kind;
+  sender = p .sender;
+  receiver = p .receiver;
+  source = p .source;
+  destination = p .destination;
+  reset = p .reset;
+}
 
 -- The first `count` packets of an array.
 unfoldable pub packetsOf : List Packet → ℕ → List model.Packet
@@ -73,6 +88,7 @@ view memory = record {
   sought = memory .sought;
   active = memory .active;
   air = airOf (memory .air);
+  serials = memory .serials;
 }
 
 -- The tables have their lengths.
@@ -82,6 +98,7 @@ pub record Lengths (m : Memory) : Type 0 where
   pub d-length : length (m .d) ≡ 256
   pub rows-length : length (m .rows) ≡ 256
   pub records-length : length (m .records) ≡ 256
+  pub serials-length : length (m .serials) ≡ 16
   pub numbers-length : length (m .numbers) ≡ 16
   pub sought-length : length (m .sought) ≡ 16
   pub active-length : length (m .active) ≡ 16

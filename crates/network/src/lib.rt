@@ -25,9 +25,10 @@ pub struct Record {
     pub passed: bool,
 }
 
-// A packet. Kind 1 is a request, 2 a reply (no mask and no reset bit), 3 an error (the mask alone).
+// A packet, with the serial number of its sending. Kind 1 is a request, 2 a reply (no mask and no reset bit), 3 an error (the mask alone).
 pub struct Packet {
     pub label: Label,
+    pub serial: u64,
     pub number: RequestNumber,
     pub mask: u16,
     pub kind: u8,
@@ -44,13 +45,15 @@ pub struct Air {
     pub count: u8,
 }
 
-// The memory. What station i holds for station t stands at 16·i + t, and the link of two stations where the lower one holds the other.
+// The memory. What station i holds for station t stands at 16·i + t, and the link of two stations where the lower one holds the other. A
+// station's sendings are numbered; serials[i] is the number of its last.
 pub struct Memory {
     pub s: [u64; 256],
     pub m: [u32; 256],
     pub d: [u32; 256],
     pub rows: [Row; 256],
     pub records: [Record; 256],
+    pub serials: [u64; 16],
     pub numbers: [RequestNumber; 16],
     pub sought: [u8; 16],
     pub active: [bool; 16],

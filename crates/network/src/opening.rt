@@ -12,8 +12,7 @@ use crate::RequestNumber;
 use crate::places::place;
 use label::Label;
 use label::SequenceNumber;
-use rows::ROW_LIMIT;
-use rows::Row;
+use rows::empty_row;
 
 // Fresh memory of n stations.
 pub fn fresh(n: u8, start: u64) -> Memory
@@ -37,13 +36,7 @@ pub fn fresh(n: u8, start: u64) -> Memory
         m: 1,
         d: 1,
     };
-    let labels = [unassigned; ROW_LIMIT as usize];
-    let stations = [0; ROW_LIMIT as usize];
-    let row = Row {
-        labels: labels,
-        stations: stations,
-        count: 0,
-    };
+    let row = empty_row();
     let record = Record {
         cached: unassigned,
         number: none,
@@ -53,6 +46,7 @@ pub fn fresh(n: u8, start: u64) -> Memory
     };
     let packet = Packet {
         label: unassigned,
+        serial: 0,
         number: none,
         mask: 0,
         kind: 0,
@@ -69,6 +63,7 @@ pub fn fresh(n: u8, start: u64) -> Memory
     };
     let rows = [row; 256];
     let records = [record; 256];
+    let serials = [0; 16];
     let numbers = [none; 16];
     let sought = [0; 16];
     let active = [false; 16];
@@ -79,6 +74,7 @@ pub fn fresh(n: u8, start: u64) -> Memory
         d: d,
         rows: rows,
         records: records,
+        serials: serials,
         numbers: numbers,
         sought: sought,
         active: active,

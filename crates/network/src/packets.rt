@@ -6,7 +6,7 @@ ghost use lib.ListN.{length, set};
 ghost use Rattle.base.specs.Lists.{below, removed};
 ghost use Rattle.model.specs.Memory.{linkIn, request, reply, error, airLimit};
 ghost use Rattle.model.specs.Calls.{packet, between, dropBetween};
-ghost use Rattle.network.specs.View.{bodyOf, packetOf, packetsOf};
+ghost use Rattle.network.specs.View.{bodyOf, packetOf, packetsOf, numbered};
 use crate::AIR_LIMIT;
 use crate::Packet;
 use crate::RequestNumber;
@@ -15,7 +15,7 @@ use crate::places::pair_place;
 use label::Label;
 use label::label_of;
 
-// A request, from nobody to nobody.
+// A request, from nobody to nobody, not numbered.
 pub fn request(
     source: u8,
     number: RequestNumber,
@@ -27,6 +27,7 @@ pub fn request(
 {
     Packet {
         label: label,
+        serial: 0,
         number: number,
         mask: 0,
         kind: 1,
@@ -38,12 +39,13 @@ pub fn request(
     }
 }
 
-// A reply, from nobody to nobody.
+// A reply, from nobody to nobody, not numbered.
 pub fn reply(source: u8, number: RequestNumber, destination: u8, label: Label) -> Packet
     ensures { λ r. ⌜ bodyOf r ≡ reply (record { source = source; number = number .0; destination = destination; label = label }) ⌝ }
 {
     Packet {
         label: label,
+        serial: 0,
         number: number,
         mask: 0,
         kind: 2,
@@ -55,12 +57,13 @@ pub fn reply(source: u8, number: RequestNumber, destination: u8, label: Label) -
     }
 }
 
-// An error, from nobody to nobody.
-pub fn error(mask: u16) -> Packet
-    ensures { λ r. ⌜ bodyOf r ≡ error mask ⌝ }
+// An error of this serial number, from nobody to nobody.
+pub fn error(mask: u16, serial: u64) -> Packet
+    ensures { λ r. ⌜ (bodyOf r ≡ error mask) × (r .serial ≡ serial) ⌝ }
 {
     Packet {
         label: label_of(0, 0, 0),
+        serial: serial,
         number: RequestNumber(0),
         mask: mask,
         kind: 3,
@@ -72,9 +75,18 @@ pub fn error(mask: u16) -> Packet
     }
 }
 
+// The packet with this serial number.
+pub fn numbered(p: Packet, serial: u64) -> Packet
+    ensures { λ r. ⌜ r ≡ numbered p serial ⌝ }
+{
+    let mut next = p;
+    next.serial = serial;
+    next
+}
+
 // The packet from a to b.
 pub fn addressed(p: Packet, a: u8, b: u8) -> Packet
-    ensures { λ r. ⌜ packetOf r ≡ packet a b (bodyOf p) ⌝ }
+    ensures { λ r. ⌜ packetOf r ≡ packet a b (bodyOf p) (p .serial) ⌝ }
 {
     let mut next = p;
     next.sender = a;
@@ -204,7 +216,7 @@ pub fn broadcast(
 ) -> [Packet; AIR_LIMIT as usize]
     requires { ⌜ (n ≤ 16) × (a < 16) ⌝ }
     requires { ⌜ count + length (below n (linkIn links a)) ≤ airLimit ⌝ }
-    ensures { λ r. ⌜ packetsOf r (count + length (below n (linkIn links a))) ≡ packetsOf packets count ++ map (λ b. packet a b (bodyOf p)) (below n (linkIn links a)) ⌝ }
+    ensures { λ r. ⌜ packetsOf r (count + length (below n (linkIn links a))) ≡ packetsOf packets count ++ map (λ b. packet a b (bodyOf p) (p .serial)) (below n (linkIn links a)) ⌝ }
 {
     let mut end = count;
     let mut b = 0;

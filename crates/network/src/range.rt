@@ -7,7 +7,7 @@ ghost use lib.ListN.{getD};
 ghost use Rattle.base.specs.Lists.{allBelow, allIn, distinct};
 ghost use Rattle.model.specs.Memory.{stations, successorInRange, rowInRange, recordInRange, ownInRange, cellInRange, rowLimit};
 ghost use Rattle.model.specs.Memory.{headInRange, bodyInRange, packetInRange, airInRange, sizeInRange, memoryInRange};
-ghost use Rattle.rows.specs.View.{successor, rowOf};
+ghost use Rattle.rows.specs.View.{successorOf, rowOf};
 ghost use Rattle.network.specs.View.{recordOf, bodyOf, packetOf, airOf, view};
 use crate::AIR_LIMIT;
 use crate::Air;
@@ -18,13 +18,17 @@ use label::Label;
 use label::label_of;
 use rows::ROW_LIMIT;
 use rows::Row;
+use rows::Successor;
+use rows::entry;
 use rows::find;
 use validation::size_in_range;
 
 // An entry of a row that i holds: another station, and a label in range.
-fn entry_in_range(station: u8, label: Label, n: u8, i: u8) -> bool
-    ensures { λ r. ⌜ r ≡ successorInRange n i (successor station label) ⌝ }
+fn entry_in_range(e: Successor, n: u8, i: u8) -> bool
+    ensures { λ r. ⌜ r ≡ successorInRange n i (successorOf e) ⌝ }
 {
+    let station = e.station;
+    let label = e.label;
     if n <= station {
         return false;
     }
@@ -42,9 +46,8 @@ fn entries_in_range(row: Row, n: u8, i: u8) -> bool
     let count = row.count as usize;
     let mut k = 0;
     while k < count {
-        let station = row.stations[k];
-        let label = row.labels[k];
-        if !entry_in_range(station, label, n, i) {
+        let e = entry(row, k);
+        if !entry_in_range(e, n, i) {
             return false;
         }
         k += 1;

@@ -10,8 +10,8 @@ use Rattle.base.specs.Lists.{tabulate}
 use Rattle.base.proofs.Loops.{tabulate-at}
 use Rattle.label.specs.declared.Label.{Label}
 use Rattle.model.specs.Memory as model
-use Rattle.model.specs.Memory.{Network, error, zeroLabel, place, rowIn, setAir}
-use Rattle.model.specs.Calls.{errors, errorOutcome}
+use Rattle.model.specs.Memory.{Network, zeroLabel, place, rowIn, setAir}
+use Rattle.model.specs.Calls.{errorOutcome}
 use Rattle.model.specs.Events.{eventOf}
 use Rattle.model.specs.Preview.{shows, numberShown, preview}
 use Rattle.model.proofs.Narrowing.{preview-narrowed}
@@ -19,7 +19,7 @@ use Rattle.rows.specs.declared.Row.{Row}
 use Rattle.rows.specs.View.{zeroRow, rowOf, NamesOnce}
 use Rattle.network.specs.declared.Packet.{Packet}
 use Rattle.network.specs.declared.Memory.{Memory}
-use Rattle.network.specs.View.{zeroNumber, zeroRecord, zeroPacket, bodyOf, labelOf, view}
+use Rattle.network.specs.View.{zeroNumber, zeroRecord, zeroPacket, numbered, labelOf, view}
 use Rattle.network.proofs.ViewLaws.{row-at}
 use Rattle.network.proofs.Ranged.{Carried}
 use Rattle.station.specs.Reacting.{sentBy}
@@ -28,6 +28,7 @@ use Rattle.decisions.specs.declared.cutting.Cut.{Cut}
 use Rattle.decisions.specs.declared.cutting.Losses.{Losses}
 use Rattle.decisions.specs.declared.changing.Spot.{Spot}
 use Rattle.decisions.specs.declared.changing.Change.{Change}
+use Rattle.decisions.specs.Cutting.{ErrorCuts}
 use Rattle.decisions.specs.Refusing.{Seen, Tests}
 use Rattle.decisions.specs.Changing.{Reacts}
 use Rattle.steps.proofs.RunLaws.{lengths-shape, shape-sized}
@@ -35,8 +36,9 @@ use Rattle.steps.proofs.ArmLaws.{known}
 use Rattle.steps.proofs.DeliverLaws.{arrives, carried, flying}
 use Rattle.steps.proofs.ChangeLaws.{Looks, arrived}
 use Rattle.steps.proofs.CutLaws.{Lost}
+use Rattle.steps.proofs.PartingLaws.{ErrorScope, errors-count}
 use Rattle.previews.specs.declared.Gathered.{Gathered}
-use Rattle.previews.specs.Shown.{unlessFull}
+use Rattle.previews.specs.Shown.{unlessStopped}
 use Rattle.previews.specs.Gathered.{heldFor, gatheredOf, InRange}
 use Rattle.previews.proofs.ShownLaws.{Looked, looked, refused-shown, error-shown, changes, reaction-shown}
 
@@ -53,6 +55,7 @@ module _ (m : Memory) (k : ℕ) where
         rows = rows;
         held = record { label = l; row = getD (m .rows) cell zeroRow; kept = getD (m .records) slot zeroRecord; active = getD (m .active) i false };
         packet = p;
+        serial = getD (m .serials) i 0;
         links = m .links;
         last = getD (m .numbers) i zeroNumber;
         sought = getD (m .sought) i 0;
@@ -61,7 +64,7 @@ module _ (m : Memory) (k : ℕ) where
       } ≡ gatheredOf m k
   gathered-is a b c d e = rw (d, e, b, c, a)
 
--- The packet and the numbers, where no test but that for 7 turns its delivery down.
+-- The packet and the numbers, where no test but those for 13 and 7 turns its delivery down.
 pub record Lands (w : Gathered) : Type 0 where
   pub few-stations : w .n ≤ 16
   pub receiver-below : w .packet .receiver < w .n
@@ -117,16 +120,15 @@ module _ {m : Memory} {k r : ℕ} {w : Gathered} (s : InRange m) (e : w ≡ gath
 
     -- An error: what is lost, what is sent, and what is shown.
     abbrev ErrorShown : Gathered → Type 0
-    ErrorShown x = x .packet .kind ≡ 3 → (cut : Cut) (losses : Losses) → (cut .first ≡ x .packet .receiver) × (cut .second ≡ x .packet .sender) × (cut .mask ≡ x .packet .mask) × (cut .others ≡ 0)
-        → Lost cut (map rowOf (m .rows)) (x .n) losses → (l : Label) (row : model.Row) (answer number scope : ℕ) (q : Packet) → l ≡ zeroLabel → row ≡ [] → answer ≡ errorOutcome (losses .removed) (losses .emptied)
-        → ((net : Network) (a : ℕ) (y : Packet) → bodyOf y ≡ error (losses .emptied) → sentBy scope (net .links) (net .n) a y ≡ errors net a (losses .emptied))
-        → bodyOf q ≡ error (losses .emptied) → number ≡ length (sentBy scope (x .links) (x .n) (x .packet .receiver) q)
-        → unlessFull (x .count - 1 + number) (shows answer number l row (losses .emptied)) ≡ preview (view m) k
+    ErrorShown x = x .packet .kind ≡ 3 → (cut : Cut) (losses : Losses) → ErrorCuts (x .packet) cut
+        → Lost cut (map rowOf (m .rows)) (x .n) losses → (l : Label) (row : model.Row) (answer number scope : ℕ) → l ≡ zeroLabel → row ≡ [] → answer ≡ errorOutcome (losses .removed) (losses .emptied)
+        → ErrorScope scope (losses .emptied) → ((q : Packet) → number ≡ length (sentBy scope (x .links) (x .n) (x .packet .receiver) q))
+        → unlessStopped (x .serial) number (x .count - 1 + number) (shows answer number l row (losses .emptied)) ≡ preview (view m) k
 
     pub gathered-error : ErrorShown w
     unfolding view setAir
-    gathered-error = subst ErrorShown (sym e) (λ is-error cut losses cuts lost l row answer number scope q a b c sends body count-is.
-        error-shown h zero is-error cuts lost a b c (count-is ∙ ap length (sends (flying h zero refl) (p .receiver) q body)))
+    gathered-error = subst ErrorShown (sym e) (λ is-error cut losses cuts lost l row answer number scope a b c sends counts.
+        rw same (error-shown h zero is-error cuts lost a b c (errors-count scope (losses .emptied) sends (flying h zero refl) (p .receiver) counts)))
 
     -- A request or a reply: it is one of these, and what is shown.
     abbrev spot : Spot
@@ -153,9 +155,10 @@ module _ {m : Memory} {k r : ℕ} {w : Gathered} (s : InRange m) (e : w ≡ gath
 
     abbrev ReactionShown : Gathered → Type 0
     ReactionShown x = x .packet .kind ≢ 3 → (c : Change) → Reacts (x .packet) (x .held) (x .last) (x .sought) (x .links) c
-        → (number : ℕ) → number ≡ length (sentBy (c .scope) (x .links) (x .n) (x .packet .receiver) (c .packet))
-        → unlessFull (x .count - 1 + number) (shows (c .answer) number (c .holding .label) (rowOf (c .holding .row)) 0) ≡ preview (view m) k
+        → (number : ℕ) → ((q : Packet) → number ≡ length (sentBy (c .scope) (x .links) (x .n) (x .packet .receiver) q))
+        → unlessStopped (x .serial) number (x .count - 1 + number) (shows (c .answer) number (c .holding .label) (rowOf (c .holding .row)) 0) ≡ preview (view m) k
 
     pub gathered-reaction : ReactionShown w
-    gathered-reaction = subst ReactionShown (sym e) (λ q c re number count-is.
-        reaction-shown (looks q) q re (count-is ∙ ap (λ (i : ℕ). length (sentBy (c .scope) (m .links) (m .n) i (c .packet))) (sym same)))
+    gathered-reaction = subst ReactionShown (sym e) (λ q c re number counts.
+        let sent = numbered (c .packet) (getD (m .serials) (p .receiver % 16) 0 + 1) in
+        reaction-shown (looks q) q re (counts sent ∙ ap (λ (i : ℕ). length (sentBy (c .scope) (m .links) (m .n) i sent)) (sym same)))

@@ -2,54 +2,58 @@
 use Prim.Native.Nat.{ℕ, _+_, _-_, _%_, _<_}
 use mathlib.Core.Path.{_≡_, refl, sym, _∙_}
 use mathlib.Core.Logic.{_≢_}
-use mathlib.Core.Bool.{Bool, true, false}
+use mathlib.Core.Bool.{Bool, true, false, _&&_}
 use mathlib.Core.List.{List, [], map}
-use lib.Dec.{ltb}
+use lib.Dec.{ltb, leb, eqb}
 use lib.ListN.{length, getD}
 use lib.Seq.{getD-set-same}
 use native.Mathlib.Omega.{arith}
-use borrow.Author.Tests.{ltb-true, ltb-false, ne-eqb}
+use borrow.Author.Tests.{ne-eqb, eqb-true, eqb-false}
 use Rattle.base.specs.Choice.{if_then_else_}
+use Rattle.base.specs.Numbers.{maxU64}
 use Rattle.base.proofs.Booleans.{Trichotomy, less, equal, more, trichotomy}
 use Rattle.label.specs.declared.Label.{Label}
 use Rattle.model.specs.Memory as model
-use Rattle.model.specs.Memory.{Network, names, zeroLabel, place, setLabels, setRows, setRecords, setActives, setAir, airLimit, memoryInRange}
-use Rattle.model.specs.Calls.{Deliver, Effect, limited, send, sending, errors, bit, errorOutcome, step}
+use Rattle.model.specs.Memory.{Network, zeroLabel, place, setLabels, setRows, setRecords, setActives, setAir, setSerials, airLimit, memoryInRange}
+use Rattle.model.specs.Calls.{Deliver, Effect, usedUp, limited, append, send, sending, errors, bit, withdrawn, errorOutcome, step}
 use Rattle.model.specs.Events.{usesOne, notEvent, callOf, eventOf}
 use Rattle.model.specs.Preview.{Preview, shows, numberShown, holdingShown, emptyingShown, effectShown, preview}
-use Rattle.model.proofs.Refusals.{sending-7, sending-accepted}
+use Rattle.model.proofs.Refusals.{limited-refused, limited-accepted}
 use Rattle.model.proofs.Rows.{mask-emptied}
 use Rattle.model.proofs.PreviewLaws.{preview-refused, preview-accepted}
 use Rattle.rows.specs.View.{zeroRow, rowOf}
 use Rattle.network.specs.declared.Packet.{Packet}
 use Rattle.network.specs.declared.Memory.{Memory}
-use Rattle.network.specs.View.{zeroNumber, zeroRecord, zeroPacket, requestOf, replyOf, bodyOf, packetOf, view}
+use Rattle.network.specs.View.{zeroNumber, zeroRecord, zeroPacket, requestOf, replyOf, bodyOf, packetOf, numbered, view}
 use Rattle.network.proofs.ViewLaws.{body-request, body-reply, body-error}
 use Rattle.network.proofs.PacketLaws.{packets-count, packets-at}
-use Rattle.station.specs.Reacting.{sentBy, holding, reacts}
+use Rattle.station.specs.Reacting.{sentBy, holding}
 use Rattle.decisions.specs.declared.changing.Spot.{Spot}
 use Rattle.decisions.specs.declared.changing.Change.{Change}
 use Rattle.decisions.specs.declared.cutting.Cut.{Cut}
 use Rattle.decisions.specs.declared.cutting.Losses.{Losses}
-use Rattle.decisions.specs.Refusing.{Seen, Tests}
+use Rattle.decisions.specs.Cutting.{ErrorCuts}
+use Rattle.decisions.specs.Refusing.{Seen, Tests, sendingRefusal}
+use Rattle.decisions.proofs.RefusalLaws.{first-alone}
 use Rattle.decisions.specs.Changing.{classOf, reaction, Reacts}
 use Rattle.steps.proofs.RunLaws.{Shape, shape-sized}
 use Rattle.steps.proofs.ArmLaws.{Tested, known}
-use Rattle.steps.proofs.DeliverLaws.{arrives, carried, rest-length, flying, reaction-does, gone-is, after-error, error-does}
+use Rattle.steps.proofs.DeliverLaws.{arrives, carried, flying, reacting, reaction-steps, reaction-does, gone-is, telling, error-steps, error-does}
 use Rattle.steps.proofs.ChangeLaws.{Looks, receiver}
 use Rattle.steps.proofs.CutLaws.{Lost}
-use Rattle.previews.specs.Shown.{unlessFull}
+use Rattle.previews.specs.Shown.{unlessStopped}
 
--- 7, or all that is shown.
-pub shown-7 : {full : Bool} (air : ℕ) {r : Preview} (v : Preview) → full ≡ ltb airLimit air → full ≡ true → r ≡ numberShown 7 → r ≡ unlessFull air v
-unfolding unlessFull
-shown-7 air v is taken e = rw (sym is ∙ taken) e
+-- 13 or 7, or all that is shown.
+module _ (serial sent air : ℕ) {stop : ℕ} (is : stop ≡ sendingRefusal airLimit air serial sent 0 0) where
+  pub shown-stopped : {r : Preview} (v : Preview) → stop ≢ 0 → r ≡ numberShown stop → r ≡ unlessStopped serial sent air v
+  unfolding unlessStopped
+  shown-stopped v h e = e ∙ rw (← is, ne-eqb stop 0 h)
 
-pub shown-whole : {full : Bool} (air : ℕ) (v : Preview) → full ≡ ltb airLimit air → full ≡ false → v ≡ unlessFull air v
-unfolding unlessFull
-shown-whole air v is left = rw (sym is ∙ left)
+  pub shown-whole : (v : Preview) → stop ≡ 0 → v ≡ unlessStopped serial sent air v
+  unfolding unlessStopped
+  shown-whole v zero = rw (← is, zero)
 
--- Packet k of the memory, past the tests but that for 7, which gave r.
+-- Packet k of the memory, past the tests but those for 13 and 7, which gave r.
 abbrev pub Looked : Memory → (k r : ℕ) → Type 0
 Looked memory k r = Tested memory (memory .air .packets) (memory .air .count) 6 k 0 r
 
@@ -85,39 +89,50 @@ module _ {memory : Memory} {k r : ℕ} (h : Looked memory k r) where
     unfolding view
     packet-is = rw (packets-at (memory .air .packets) count k model.zeroPacket (arrives h zero refl .0), arrives h zero refl .1)
 
-    -- 7, or what is shown of the effect.
-    sending-shown : (answer : ℕ) (packets : List model.Packet) (net : Network) → step (Deliver k) (view memory) ≡ limited (sending answer packets net)
-        → preview (view memory) k ≡ unlessFull (length (net .air) + length packets) (effectShown (p .receiver) (bodyOf p) (view memory) (sending answer packets net))
-    unfolding unlessFull packetOf
-    sending-shown answer packets net e = go (ltb airLimit (length (net .air) + length packets)) refl
+    -- 13 or 7, or what is shown of the effect.
+    effect-shown : (e : Effect) (serial sent total : ℕ) → step (Deliver k) (view memory) ≡ limited (view memory) e → usedUp (view memory) e ≡ leb maxU64 serial && ltb 0 sent
+        → length (e .net .air) ≡ total → preview (view memory) k ≡ unlessStopped serial sent total (effectShown (p .receiver) (bodyOf p) (view memory) e)
+    unfolding packetOf
+    effect-shown e serial sent total steps used air = go (eqb stop 0) refl
       where
-        go : (x : Bool) → ltb airLimit (length (net .air) + length packets) ≡ x
-            → preview (view memory) k ≡ (if x then numberShown 7 else effectShown (p .receiver) (bodyOf p) (view memory) (sending answer packets net))
-        go true q = preview-refused (view memory) k 7 (e ∙ sending-7 answer packets net (ltb-true airLimit _ q))
+        stop : ℕ
+        stop = sendingRefusal airLimit total serial sent 0 0
+
+        counts : stop ≡ (if leb maxU64 serial && ltb 0 sent then 13 else if ltb airLimit total then 7 else 0)
+        counts = first-alone airLimit total serial sent 0 0 refl refl
+
+        go : (x : Bool) → eqb stop 0 ≡ x → preview (view memory) k ≡ unlessStopped serial sent total (effectShown (p .receiver) (bodyOf p) (view memory) e)
+        go true q =
+            let zero = eqb-true stop 0 q in
+            preview-accepted (view memory) k e (steps ∙ limited-accepted (view memory) e used air counts zero) ∙ rw packet-is (shown-whole serial sent total refl _ zero)
         go false q =
-            preview-accepted (view memory) k _ (e ∙ sending-accepted answer packets net (ltb-false airLimit _ q)) ∙ rw packet-is
+            let some = eqb-false stop 0 q in
+            shown-stopped serial sent total refl _ some (preview-refused (view memory) k stop (steps ∙ limited-refused (view memory) e used air counts some))
 
     -- An error.
-    module _ (is-error : p .kind ≡ 3) {cut : Cut} {losses : Losses} (cuts : (cut .first ≡ p .receiver) × (cut .second ≡ p .sender) × (cut .mask ≡ p .mask) × (cut .others ≡ 0))
+    module _ (is-error : p .kind ≡ 3) {cut : Cut} {losses : Losses} (cuts : ErrorCuts p cut)
         (lost : Lost cut (map rowOf (memory .rows)) (memory .n) losses) where
       abbrev sent : List model.Packet
       sent = errors (flying h zero refl) (p .receiver) (losses .emptied)
 
+      abbrev serial : ℕ
+      serial = getD (memory .serials) (p .receiver) 0
+
       error-is : preview (view memory) k
-          ≡ unlessFull (count - 1 + length sent) (shows (errorOutcome (losses .removed) (losses .emptied)) (length sent) zeroLabel [] (losses .emptied))
-      unfolding effectShown emptyingShown sending send setAir setRows view
+          ≡ unlessStopped serial (length sent) (count - 1 + length sent) (shows (errorOutcome (losses .removed) (losses .emptied)) (length sent) zeroLabel [] (losses .emptied))
+      unfolding effectShown emptyingShown sending send append setAir setRows setSerials view
       error-is =
-          sending-shown (errorOutcome (losses .removed) (losses .emptied)) sent (after-error h zero refl is-error cuts lost) (error-does h zero refl is-error cuts lost)
+          let does = error-does h zero refl is-error cuts lost in
+          effect-shown (telling h zero refl is-error cuts lost) serial (length sent) (count - 1 + length sent) (error-steps h zero refl is-error cuts lost) (does .used-is) (does .total-is)
           ∙ rw (
             body-error p is-error,
-            rest-length h zero refl,
             gone-is h zero refl is-error cuts lost,
-            mask-emptied (bit (p .mask)) (names (p .sender)) (p .receiver) (memory .n) (map rowOf (memory .rows)) (omega (arith, carried h zero refl .receiver-below, known h .high)) (known h .high) (shape-sized count (h .shape) .rows-length),
+            mask-emptied (bit (p .mask)) (withdrawn (p .sender) (p .serial)) (p .receiver) (memory .n) (map rowOf (memory .rows)) (omega (arith, carried h zero refl .receiver-below, known h .high)) (known h .high) (shape-sized count (h .shape) .rows-length),
           )
 
       -- With the numbers that the code found.
       pub error-shown : {l : Label} {row : model.Row} {answer number : ℕ} → l ≡ zeroLabel → row ≡ [] → answer ≡ errorOutcome (losses .removed) (losses .emptied) → number ≡ length sent
-          → unlessFull (count - 1 + number) (shows answer number l row (losses .emptied)) ≡ preview (view memory) k
+          → unlessStopped serial number (count - 1 + number) (shows answer number l row (losses .emptied)) ≡ preview (view memory) k
       error-shown a b c d = rw (a, b, c, d) (sym error-is)
 
     -- A request or a reply.
@@ -146,22 +161,31 @@ module _ {memory : Memory} {k r : ℕ} {w : Spot} {cell slot : ℕ} {l : Label} 
   module _ (q : arriving .kind ≢ 3) {c : Change}
       (re : Reacts arriving (record { label = l; row = getD (memory .rows) cell zeroRow; kept = getD (memory .records) slot zeroRecord; active = getD (memory .active) (w .station) false })
       (getD (memory .numbers) (w .station) zeroNumber) (getD (memory .sought) (w .station) 0) (memory .links) c) where
-    abbrev replies : List model.Packet
-    replies = sentBy (c .scope) (memory .links) (memory .n) (w .station) (c .packet)
+    abbrev own-serial : ℕ
+    own-serial = getD (memory .serials) (w .station) 0
 
-    reaction-is : preview (view memory) k ≡ unlessFull (memory .air .count - 1 + length replies) (shows (c .answer) (length replies) (c .holding .label) (rowOf (c .holding .row)) 0)
-    unfolding reacts holding holdingShown sending send setAir setLabels setRows setRecords setActives view
+    abbrev replies : List model.Packet
+    replies = sentBy (c .scope) (memory .links) (memory .n) (w .station) (numbered (c .packet) (own-serial + 1))
+
+    reaction-is : preview (view memory) k
+        ≡ unlessStopped own-serial (length replies) (memory .air .count - 1 + length replies) (shows (c .answer) (length replies) (c .holding .label) (rowOf (c .holding .row)) 0)
+    unfolding holding holdingShown sending send append setAir setLabels setRows setRecords setActives setSerials view
     reaction-is =
         let s = receiver g refl q in
         let head = carried (g .tested) (g .zero-is) refl in
         let sizes = shape-sized (memory .air .count) (g .tested .shape) in
         let high = known (g .tested) .high in
         let here : place (arriving .receiver) (arriving .destination) < 256 = omega (arith, head .receiver-below, head .head q .destination-below, high) in
-        sending-shown (g .tested) (g .zero-is) (c .answer) (sentBy (c .scope) (memory .links) (memory .n) (arriving .receiver) (c .packet)) (holding arriving (c .holding) (flying (g .tested) (g .zero-is) refl))
-        (reaction-does (g .tested) (g .zero-is) refl q cell slot l (rw (s .0, s .1) at (g .cell-is)) (rw (s .0, s .2) at (g .slot-is)) (g .label-is) (reaction c) (rw (s .0) at (re .reacted)))
+        let at = rw (s .0, s .1) at (g .cell-is) in
+        let kept-at = rw (s .0, s .2) at (g .slot-is) in
+        let reacts = rw (s .0) at (re .reacted) in
+        let list = sentBy (c .scope) (memory .links) (memory .n) (arriving .receiver) (numbered (c .packet) (getD (memory .serials) (arriving .receiver) 0 + 1)) in
+        let does = reaction-does (g .tested) (g .zero-is) refl q cell slot l at kept-at (g .label-is) (reaction c) reacts list refl in
+        effect-shown (g .tested) (g .zero-is) (reacting (g .tested) (g .zero-is) refl q cell slot l at kept-at (g .label-is) (reaction c) reacts list refl)
+        (getD (memory .serials) (arriving .receiver) 0) (length list) (memory .air .count - 1 + length list)
+        (reaction-steps (g .tested) (g .zero-is) refl q cell slot l at kept-at (g .label-is) (reaction c) reacts list refl) (does .used-is) (does .total-is)
         ∙ rw (
           body-shown (g .tested) (g .zero-is) q,
-          rest-length (g .tested) (g .zero-is) refl,
           getD-set-same (view memory .labels) (place (arriving .receiver) (arriving .destination)) (c .holding .label) zeroLabel (omega (arith, here, sizes .labels-length)),
           getD-set-same (view memory .rows) (place (arriving .receiver) (arriving .destination)) (rowOf (c .holding .row)) [] (omega (arith, here, sizes .rows-length)),
           s .0,
@@ -169,5 +193,5 @@ module _ {memory : Memory} {k r : ℕ} {w : Spot} {cell slot : ℕ} {l : Label} 
 
     -- With the number that the code found.
     pub reaction-shown : {number : ℕ} → number ≡ length replies
-        → unlessFull (memory .air .count - 1 + number) (shows (c .answer) number (c .holding .label) (rowOf (c .holding .row)) 0) ≡ preview (view memory) k
+        → unlessStopped own-serial number (memory .air .count - 1 + number) (shows (c .answer) number (c .holding .label) (rowOf (c .holding .row)) 0) ≡ preview (view memory) k
     reaction-shown e = rw e (sym reaction-is)

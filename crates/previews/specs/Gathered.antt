@@ -24,7 +24,7 @@ heldFor m p =
       active = getD (m .active) i false;
     }
 
--- Packet k, what its receiver holds for it, its last request and its rows; the links, and the numbers of stations and packets.
+-- Packet k, what its receiver holds for it, its last serial number, its last request and its rows; the links, and the numbers of stations and packets.
 abbrev pub gatheredOf : Memory → (k : ℕ) → Gathered
 gatheredOf m k =
     let p = getD (m .air .packets) (k % 128) zeroPacket in
@@ -33,6 +33,7 @@ gatheredOf m k =
       rows = tabulate 16 (λ u. getD (m .rows) (place i u) zeroRow);
       held = heldFor m p;
       packet = p;
+      serial = getD (m .serials) i 0;
       links = m .links;
       last = getD (m .numbers) i zeroNumber;
       sought = getD (m .sought) i 0;

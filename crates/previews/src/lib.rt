@@ -5,7 +5,7 @@ ghost use Rattle.model.specs.Preview.{shows, numberShown, preview};
 ghost use Rattle.rows.specs.View.{rowOf};
 ghost use Rattle.network.specs.View.{view};
 ghost use Rattle.network.specs.declared.Memory.{Memory};
-ghost use Rattle.previews.specs.Shown.{previewOf, unlessFull};
+ghost use Rattle.previews.specs.Shown.{previewOf, unlessStopped};
 ghost use Rattle.previews.specs.Gathered.{gatheredOf, InRange};
 use decisions::changing::change_of;
 use decisions::changing::spot_of;
@@ -13,15 +13,14 @@ use decisions::cutting::Losses;
 use decisions::cutting::cut_answer;
 use decisions::cutting::cut_of;
 use decisions::cutting::with_rows;
-use decisions::refusing::full;
 use decisions::refusing::refusal;
+use decisions::refusing::sending_refusal;
 use label::Label;
 use label::label_of;
 use network::AIR_LIMIT;
 use network::Memory;
 use network::Packet;
 use network::RequestNumber;
-use network::packets::error;
 use network::places::place;
 use rows::Row;
 use rows::empty_row;
@@ -39,12 +38,13 @@ pub struct Preview {
     pub sent: u8,
 }
 
-// What a preview reads of a network: packet k, what its receiver holds for it, the receiver's last request and its rows, the links, and
-// how many stations and packets there are.
+// What a preview reads of a network: packet k, what its receiver holds for it, the receiver's last serial number, its last request and its
+// rows, the links, and how many stations and packets there are.
 pub struct Gathered {
     pub rows: [Row; 16],
     pub held: Holding,
     pub packet: Packet,
+    pub serial: u64,
     pub links: [bool; 256],
     pub last: RequestNumber,
     pub sought: u8,
@@ -67,13 +67,23 @@ pub fn turned_down(number: u32) -> Preview
     }
 }
 
-// What is shown where so many packets are left and so many sent: 7 where they are too many, or all this.
-fn shown(label: Label, row: Row, mask: u16, answer: u32, left: u8, sent: u8) -> Preview
+// What is shown where so many packets are left and a station with this last serial number sends so many: 13 where it has none left, 7 where
+// the packets are too many, or all this.
+fn shown(
+    label: Label,
+    row: Row,
+    mask: u16,
+    answer: u32,
+    serial: u64,
+    left: u8,
+    sent: u8,
+) -> Preview
     requires { ⌜ left + sent < 2 ^ 8 ⌝ }
-    ensures { λ r. ⌜ previewOf r ≡ unlessFull (left + sent) (shows answer sent label (rowOf row) mask) ⌝ }
+    ensures { λ r. ⌜ previewOf r ≡ unlessStopped serial sent (left + sent) (shows answer sent label (rowOf row) mask) ⌝ }
 {
-    if full(AIR_LIMIT, left, sent) {
-        return turned_down(7);
+    let stop = sending_refusal(AIR_LIMIT, left + sent, serial, sent, 0, 0);
+    if stop != 0 {
+        return turned_down(stop);
     }
     Preview {
         label: label,
@@ -104,6 +114,7 @@ pub fn gather(memory: Memory, k: u8) -> Gathered
     let row = memory.rows[cell];
     let kept = memory.records[slot];
     let active = memory.active[own];
+    let serial = memory.serials[own];
     let last = memory.numbers[own];
     let sought = memory.sought[own];
     let mut rows = [row; 16];
@@ -124,6 +135,7 @@ pub fn gather(memory: Memory, k: u8) -> Gathered
         rows: rows,
         held: held,
         packet: p,
+        serial: serial,
         links: links,
         last: last,
         sought: sought,
@@ -146,6 +158,7 @@ pub fn preview_of(seen: Gathered, k: u8) -> Preview
         return turned_down(number);
     }
     let left = count - 1;
+    let serial = seen.serial;
     let links = seen.links;
     let station = p.receiver;
     let carried = p.kind;
@@ -166,19 +179,18 @@ pub fn preview_of(seen: Gathered, k: u8) -> Preview
         let mask = losses.emptied;
         let answer = cut_answer(6, losses.removed, mask);
         let scope = error_scope(mask);
-        let sent = copies(scope, links, n, station, error(mask));
-        return shown(label_of(0, 0, 0), empty_row(), mask, answer, left, sent);
+        let sent = copies(scope, links, n, station);
+        return shown(label_of(0, 0, 0), empty_row(), mask, answer, serial, left, sent);
     }
     let held = seen.held;
     let last = seen.last;
     let sought = seen.sought;
     let t = p.destination;
     let c = change_of(6, p, held, last, sought, links, station, t);
-    let packet = c.packet;
     let holding = c.holding;
     let label = holding.label;
     let row = holding.row;
     let scope = c.scope;
-    let sent = copies(scope, links, n, station, packet);
-    shown(label, row, 0, c.answer, left, sent)
+    let sent = copies(scope, links, n, station);
+    shown(label, row, 0, c.answer, serial, left, sent)
 }

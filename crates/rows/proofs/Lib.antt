@@ -1,3 +1,4 @@
 pub mod Bounds
 pub mod RowLaws
 pub mod SearchLaws
+mod LeavingLaws

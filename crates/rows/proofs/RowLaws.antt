@@ -1,23 +1,22 @@
 -- Laws of rows read as lists.
 use Prim.Native.Nat.{ℕ, suc, _+_, _≤_, _<_}
-use mathlib.Core.Path.{_≡_, sym, ap, ap₂, _∙_}
-use mathlib.Core.Logic.{_≢_}
+use mathlib.Core.Path.{_≡_, refl, sym, ap, ap₂, _∙_}
 use mathlib.Core.Bool.{true, not}
-use mathlib.Core.List.{List, [], _∷_, _++_}
+use mathlib.Core.List.{[], _∷_, _++_}
 use lib.ListN.{length, getD, set}
-use lib.Seq.{getD-set-same, getD-set-other}
+use native.Mathlib.Numerals.{add-one}
 use native.Mathlib.Omega.{arith}
-use borrow.Author.Tests.{eq-eqb, ne-eqb}
-use Rattle.base.specs.Lists.{tabulate, removeAt, removed}
+use borrow.Author.Tests.{lt-ltb, le-ltb, eq-eqb, ne-eqb}
+use Rattle.base.specs.Lists.{tabulate, removeAt}
+use Rattle.base.proofs.Booleans.{Trichotomy, less, equal, more, trichotomy}
 use Rattle.base.proofs.Lists.{keep-length}
-use Rattle.base.proofs.Loops.{tabulate-length, tabulate-more, tabulate-same, tabulate-set, skipping, tabulate-removeAt, removed-at}
+use Rattle.base.proofs.Loops.{tabulate-length, tabulate-more, tabulate-same, tabulate-set, skipping, tabulate-removeAt}
 use Rattle.label.specs.declared.Label.{Label}
-use Rattle.label.specs.Label.{label, above}
+use Rattle.label.specs.Label.{above}
 use Rattle.model.specs.Memory as model
-use Rattle.model.specs.Memory.{names, under, rowLimit}
+use Rattle.model.specs.Memory.{names, under}
 use Rattle.rows.specs.declared.Row.{Row}
-use Rattle.rows.specs.View.{successor, entryOf, rowOf}
-use Rattle.rows.proofs.Bounds.{RowLengths}
+use Rattle.rows.specs.View.{entryOf, rowOf, Written}
 
 -- Whether entry k names j.
 module _ (row : Row) (k j : ℕ) where
@@ -29,44 +28,21 @@ module _ (row : Row) (k j : ℕ) where
   unfolding names entryOf
   names-other h = ap not (ne-eqb j _ (λ e. h (sym e)))
 
--- The row with an entry written at a place, and a count.
-abbrev pub written : Row → ℕ → ℕ → Label → ℕ → Row
-written row at station label count = record { labels = set (row .labels) at label; stations = set (row .stations) at station; count = count }
-
-module _ (row : Row) (long : RowLengths row) (at station : ℕ) (label : Label) (count : ℕ) where
-  written-here : at < rowLimit → entryOf (written row at station label count) at ≡ successor station label
-  unfolding entryOf
-  written-here h =
-      ap₂ (λ (s : ℕ) (l : Label). successor s l)
-      (getD-set-same (row .stations) at station 0 (omega (arith, long .stations-length)))
-      (getD-set-same (row .labels) at label _ (omega (arith, long .labels-length)))
-
-  written-elsewhere : (k : ℕ) → k ≢ at → entryOf (written row at station label count) k ≡ entryOf row k
-  unfolding entryOf
-  written-elsewhere k h =
-      ap₂ (λ (s : ℕ) (l : Label). successor s l)
-      (getD-set-other (row .stations) at k station 0 h) (getD-set-other (row .labels) at k label _ h)
-
--- An entry written at the count is one more.
-pub row-push : (row : Row) → RowLengths row → (station : ℕ) (label : Label) → row .count < rowLimit
-    → rowOf (written row (row .count) station label (row .count + 1)) ≡ rowOf row ++ (successor station label ∷ [])
+-- An entry written at the count is one more, if it is counted.
+pub row-push : (row next : Row) (e : model.Successor) → Written row (row .count) e next → tabulate (row .count + 1) (entryOf next) ≡ rowOf row ++ (e ∷ [])
 unfolding rowOf
-row-push row long station label h =
-    let c = row .count in
-    let next = written row c station label (c + 1) in
-    tabulate-more c (entryOf next)
-    ∙ ap₂ (λ (l : model.Row) (e : model.Successor). l ++ (e ∷ []))
-    (tabulate-same c (entryOf next) (entryOf row) (λ k l. written-elsewhere row long c station label (c + 1) k (λ e. omega arith)))
-    (written-here row long c station label (c + 1) h)
+row-push row next e w =
+    tabulate-more (row .count) (entryOf next)
+    ∙ ap₂ (λ (l : model.Row) (x : model.Successor). l ++ (x ∷ []))
+    (tabulate-same (row .count) (entryOf next) (entryOf row) (λ k h. w .elsewhere k (λ q. omega arith))) (w .here)
 
 -- An entry written below the count takes that place.
-pub row-set : (row : Row) → RowLengths row → (at station : ℕ) (label : Label) → at < rowLimit
-    → rowOf (written row at station label (row .count)) ≡ set (rowOf row) at (successor station label)
+pub row-set : (row next : Row) (k : ℕ) (e : model.Successor) → Written row k e next → rowOf next ≡ set (rowOf row) k e
 unfolding rowOf
-row-set row long at station label h =
-    let next = written row at station label (row .count) in
-    tabulate-set (row .count) (entryOf row) (entryOf next) at (λ k l q. written-elsewhere row long at station label (row .count) k q)
-    ∙ ap (λ e. set (tabulate (row .count) (entryOf row)) at e) (written-here row long at station label (row .count) h)
+row-set row next k e w =
+    ap (λ c. tabulate c (entryOf next)) (w .count-same)
+    ∙ tabulate-set (row .count) (entryOf row) (entryOf next) k (λ j h q. w .elsewhere j q)
+    ∙ ap (set (tabulate (row .count) (entryOf row)) k) (w .here)
 
 pub row-length : (row : Row) → length (rowOf row) ≡ row .count
 unfolding rowOf
@@ -79,15 +55,24 @@ under-short next g r e =
     let q : length (under g r) ≡ next .count = ap length (sym e) ∙ row-length next in
     omega (arith, keep-length (λ x. above g (x .label)) r)
 
--- The row that a loop leaves which moved the entries after a place up.
-pub row-removed : (row next : Row) → RowLengths row → (place last : ℕ) → place ≤ last → last < rowLimit → row .count ≡ suc last → next .count ≡ last
-    → next .stations ≡ removed place last (row .stations) → next .labels ≡ removed place last (row .labels) → rowOf next ≡ removeAt place (rowOf row)
-unfolding rowOf entryOf
-row-removed row next long place last h few q e stations labels =
-    let f : ℕ → model.Successor = entryOf row in
-    ap (λ c. tabulate c (entryOf next)) e
-    ∙ tabulate-same last (entryOf next) (λ i. f (skipping place i))
-    (λ i m. ap₂ (λ (s : ℕ) (l : Label). successor s l)
-    (ap (λ (l : List ℕ). getD l i 0) stations ∙ removed-at place last (row .stations) 0 h (omega (arith, long .stations-length)) i m)
-    (ap (λ (l : List Label). getD l i (label 0 0 0)) labels ∙ removed-at place last (row .labels) (label 0 0 0) h (omega (arith, long .labels-length)) i m))
-    ∙ tabulate-removeAt last place f h ∙ ap (λ c. removeAt place (tabulate c f)) (sym q)
+-- A loop that removes the entry at a place: those after it have moved up as far as k. The entries were those of f, and are those of g.
+pub record MovedUp (place k : ℕ) (f g : ℕ → model.Successor) : Type 0 where
+  pub before : (j : ℕ) → j < k → g j ≡ f (skipping place j)
+  pub after : (j : ℕ) → k ≤ j → g j ≡ f j
+
+module _ (place : ℕ) (f : ℕ → model.Successor) where
+  pub moved-none : MovedUp place place f f
+  moved-none = record { before = λ j h. rw (lt-ltb j place h); after = λ j h. refl }
+
+  pub moved-more : (k : ℕ) (row next : Row) (e : model.Successor) → MovedUp place k f (entryOf row) → place ≤ k → e ≡ entryOf row (k + 1) → Written row k e next
+      → MovedUp place (k + 1) f (entryOf next)
+  moved-more k row next e m h q w = record { before = λ j l. go j (trichotomy j k) l; after = λ j l. w .elsewhere j (λ p. omega arith) ∙ m .after j (omega arith) }
+    where
+      go : (j : ℕ) → Trichotomy j k → j < k + 1 → entryOf next j ≡ f (skipping place j)
+      go j (less l) z = w .elsewhere j (λ p. omega arith) ∙ m .before j l
+      go j (equal p) z = rw (p, le-ltb k place h) (w .here ∙ q ∙ m .after (k + 1) (omega arith) ∙ ap f (add-one k))
+      go j (more l) z = absurd (omega arith)
+
+  pub moved-all : (last count : ℕ) (g : ℕ → model.Successor) → MovedUp place last f g → place ≤ last → suc last ≡ count → tabulate last g ≡ removeAt place (tabulate count f)
+  moved-all last count g m h e =
+      tabulate-same last g (λ i. f (skipping place i)) (m .before) ∙ tabulate-removeAt last place f h ∙ ap (λ c. removeAt place (tabulate c f)) e

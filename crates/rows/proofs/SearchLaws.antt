@@ -1,20 +1,13 @@
--- The search for a station in a row, and the row that the station leaves.
-use Prim.Native.Nat.{ℕ, suc, _+_, _-_, _≤_, _<_}
+-- The search for a station in a row.
+use Prim.Native.Nat.{ℕ, _+_, _≤_, _<_}
 use mathlib.Core.Path.{_≡_, refl, sym, ap, _∙_}
-use mathlib.Core.Bool.{Bool, true, false, not, _&&_}
-use mathlib.Core.List.{[], _∷_}
+use mathlib.Core.Bool.{true, false, not}
 use lib.ListN.{length, getD}
-use lib.Dec.{ltb, eqb}
 use native.Mathlib.Omega.{arith}
-use borrow.Author.Tests.{ltb-true, eq-eqb, eqb-true, not-true}
-use Rattle.base.specs.Choice.{if_then_else_}
-use Rattle.base.specs.Lists.{allBelow, someIn, keep, isEmpty, tabulate, indexOf, distinct, removeAt}
-use Rattle.base.proofs.Booleans.{both, iff}
-use Rattle.base.proofs.Lists.{all-kept, empty-length, distinct-rest}
-use Rattle.base.proofs.Loops.{all-none, all-more, tabulate-length, index-within, index-outside, index-some, index-found, index-not-found, length-removeAt, some-map}
+use Rattle.base.specs.Lists.{allBelow, someIn, tabulate}
+use Rattle.base.proofs.Loops.{all-none, all-more, tabulate-length, index-within, index-outside, index-found, index-not-found}
 use Rattle.model.specs.Memory as model
-use Rattle.model.specs.Memory.{names, stations, without}
-use Rattle.model.specs.Calls.{empties}
+use Rattle.model.specs.Memory.{names}
 use Rattle.rows.specs.declared.Row.{Row}
 use Rattle.rows.specs.View.{entryOf}
 use Rattle.rows.specs.Search.{placeOf, lookedAt}
@@ -22,10 +15,6 @@ use Rattle.rows.proofs.RowLaws.{names-same, names-other}
 
 -- The place tells whether an entry names j; one law for each case of the places looked at.
 module _ (j : ℕ) (r : model.Row) where
-  pub place-some : ltb (placeOf j r) (length r) ≡ someIn (names j) r
-  unfolding placeOf
-  place-some = index-some (names j) r
-
   pub found : placeOf j r < length r → someIn (names j) r ≡ true
   unfolding placeOf
   found h = index-within (names j) r h
@@ -80,33 +69,3 @@ module _ {row : Row} {count j : ℕ} where
             let all : looked ≡ length (tabulate count (entryOf row)) = omega (arith, long) in
             all ∙ sym (looked-all j (tabulate count (entryOf row)) (omega (arith, long)))
         go (ended e h none this) at = e ∙ ap (λ k. k + 1) at ∙ sym (looked-hit j (tabulate count (entryOf row)) (omega (arith, long)))
-
--- Where a row names a station once at most, the entries that name j are the one at the place found.
-pub without-found : (j : ℕ) (r : model.Row) → distinct (stations r) ≡ true → without (names j) r ≡ removeAt (placeOf j r) r
-unfolding without placeOf indexOf keep names distinct
-without-found j [] d = refl
-without-found j (e ∷ r) d = go (eqb j (e .station)) refl (without-found j r (distinct-rest (e .station) (stations r) d))
-  where
-    no-other : eqb j (e .station) ≡ true → someIn (names j) r ≡ false
-    no-other q =
-        let same : j ≡ e .station = eqb-true j (e .station) q in
-        sym (some-map (λ x. x .station) j r) ∙ rw same (not-true _ (both (not (someIn (eqb (e .station)) (stations r))) (distinct (stations r)) d .0))
-
-    go : (b : Bool) → eqb j (e .station) ≡ b → without (names j) r ≡ removeAt (placeOf j r) r
-        → (if not b then e ∷ without (names j) r else without (names j) r) ≡ removeAt (if b then 0 else suc (placeOf j r)) (e ∷ r)
-    go true q ih = all-kept (names j) r (no-other q)
-    go false q ih = ap (λ (z : model.Row). e ∷ z) ih
-
--- So a row that j leaves is emptied where it had this one entry.
-pub empties-found : (j : ℕ) (r : model.Row) → distinct (stations r) ≡ true → empties (names j) r ≡ someIn (names j) r && eqb (length r) 1
-unfolding empties
-empties-found j r d = ap (λ (z : model.Row). someIn (names j) r && isEmpty z) (without-found j r d) ∙ go (someIn (names j) r) (place-some j r)
-  where
-    p : ℕ
-    p = placeOf j r
-
-    go : (b : Bool) → ltb p (length r) ≡ b → b && isEmpty (removeAt p r) ≡ b && eqb (length r) 1
-    go true h =
-        let less : p < length r = ltb-true p (length r) h in
-        empty-length (removeAt p r) ∙ ap (λ c. eqb c 0) (length-removeAt p r less) ∙ iff _ _ (λ e. eq-eqb (length r) 1 (omega (arith, eqb-true))) (λ e. eq-eqb (length r - 1) 0 (omega (arith, eqb-true)))
-    go false h = refl

@@ -2,6 +2,7 @@
 -- that long, so that a row out of range is read as a row out of range.
 use Prim.Native.Nat.{ℕ, _≤_}
 use mathlib.Core.Path.{_≡_}
+use mathlib.Core.Logic.{_≢_}
 use mathlib.Core.Bool.{true}
 use mathlib.Core.List.{[]}
 use lib.ListN.{getD}
@@ -10,21 +11,32 @@ use Rattle.label.specs.declared.Label.{Label}
 use Rattle.label.specs.Label.{label}
 use Rattle.model.specs.Memory as model
 use Rattle.model.specs.Memory.{stations, rowLimit}
+use Rattle.rows.specs.declared.Successor.{Successor}
 use Rattle.rows.specs.declared.Row.{Row}
 
 -- What stands for a read past an array's end, which no code makes.
 abbrev pub zeroRow : Row
-zeroRow = record { labels = []; stations = []; count = 0 }
+zeroRow = record { labels = []; serials = []; stations = []; count = 0 }
 
--- A row: entry k is a station with the label that it advertised.
-abbrev pub successor : ℕ → Label → model.Successor
-successor station label = record { station = station; label = label }
+-- A successor: a station, the label that it advertised, and the serial number of its reply.
+abbrev pub successor : (station : ℕ) → Label → (serial : ℕ) → model.Successor
+successor station label serial = record { station = station; label = label; serial = serial }
 
+unfoldable pub successorOf : Successor → model.Successor
+successorOf e = successor (e .station) (e .label) (e .serial)
+
+-- Entry k of a row.
 unfoldable pub entryOf : Row → ℕ → model.Successor
-entryOf row k = successor (getD (row .stations) k 0) (getD (row .labels) k (label 0 0 0))
+entryOf row k = successor (getD (row .stations) k 0) (getD (row .labels) k (label 0 0 0)) (getD (row .serials) k 0)
 
 unfoldable pub rowOf : Row → model.Row
 rowOf row = tabulate (row .count) (entryOf row)
+
+-- Entry k of the row is written, and nothing else is changed.
+pub record Written (row : Row) (k : ℕ) (e : model.Successor) (next : Row) : Type 0 where
+  pub count-same : next .count ≡ row .count
+  pub here : entryOf next k ≡ e
+  pub elsewhere : (j : ℕ) → j ≢ k → entryOf next j ≡ entryOf row j
 
 -- A row of memory in range: "every count is within its limit", "no row names .. a station twice".
 pub record NamesOnce (row : Row) : Type 0 where

@@ -2,10 +2,11 @@
 ghost use mathlib.Core.Path.{_≡_};
 ghost use mathlib.Core.List.{[], _∷_, _++_};
 ghost use Prim.Native.Nat.{_<_, _≤_};
-ghost use Rattle.base.specs.Lists.{someIn, tabulate, removeAt};
+ghost use Rattle.base.specs.Lists.{someIn, tabulate, indexOf, removeAt};
 ghost use Rattle.model.specs.Memory.{names, without, under, put, withRoom, rowLimit};
 ghost use Rattle.model.specs.Calls.{empties};
-ghost use Rattle.rows.specs.View.{successor, entryOf, rowOf, NamesOnce};
+ghost use Rattle.rows.specs.View.{successorOf, entryOf, rowOf, Written, NamesOnce};
+ghost use Rattle.rows.specs.Leaving.{leaving};
 ghost use Rattle.rows.specs.Search.{placeOf, lookedAt};
 use label::Label;
 use label::label_of;
@@ -13,9 +14,17 @@ use label::label_of;
 // The most successors of a row.
 pub const ROW_LIMIT: u8 = 4;
 
-// A row of successors: entry k is the station stations[k] with the label that it advertised, labels[k].
+// A successor: a station, the label that it advertised, and the serial number of its reply.
+pub struct Successor {
+    pub label: Label,
+    pub serial: u64,
+    pub station: u8,
+}
+
+// A row of successors: entry k is the station stations[k] with the label labels[k] and the serial number serials[k].
 pub struct Row {
     pub labels: [Label; ROW_LIMIT as usize],
+    pub serials: [u64; ROW_LIMIT as usize],
     pub stations: [u8; ROW_LIMIT as usize],
     pub count: u8,
 }
@@ -26,12 +35,44 @@ pub fn empty_row() -> Row
 {
     let none = label_of(0, 0, 0);
     let labels = [none; ROW_LIMIT as usize];
+    let serials = [0; ROW_LIMIT as usize];
     let stations = [0; ROW_LIMIT as usize];
     Row {
         labels: labels,
+        serials: serials,
         stations: stations,
         count: 0,
     }
+}
+
+// Entry k of a row.
+pub fn entry(row: Row, k: usize) -> Successor
+    requires { ⌜ k < rowLimit ⌝ }
+    ensures { λ r. ⌜ successorOf r ≡ entryOf row k ⌝ }
+{
+    let label = row.labels[k];
+    let serial = row.serials[k];
+    let station = row.stations[k];
+    Successor {
+        label: label,
+        serial: serial,
+        station: station,
+    }
+}
+
+// The row with entry k written.
+pub fn with_entry(row: Row, k: usize, e: Successor) -> Row
+    requires { ⌜ k < rowLimit ⌝ }
+    ensures { λ r. ⌜ Written row k (successorOf e) r ⌝ }
+{
+    let label = e.label;
+    let serial = e.serial;
+    let station = e.station;
+    let mut next = row;
+    next.labels[k] = label;
+    next.serials[k] = serial;
+    next.stations[k] = station;
+    next
 }
 
 // How a search ended: the place of the first entry that names the station, or the number of entries where none does; and how many places
@@ -64,15 +105,12 @@ pub fn find(row: Row, count: u8, j: u8) -> Found
 }
 
 // The row with one more entry.
-fn push(row: Row, station: u8, label: Label) -> Row
+fn push(row: Row, e: Successor) -> Row
     requires { ⌜ row .count < rowLimit ⌝ }
-    ensures { λ r. ⌜ rowOf r ≡ rowOf row ++ (successor station label ∷ []) ⌝ }
+    ensures { λ r. ⌜ rowOf r ≡ rowOf row ++ (successorOf e ∷ []) ⌝ }
 {
     let count = row.count;
-    let at = count as usize;
-    let mut next = row;
-    next.stations[at] = station;
-    next.labels[at] = label;
+    let mut next = with_entry(row, count as usize, e);
     next.count = count + 1;
     next
 }
@@ -87,10 +125,10 @@ fn under(row: Row, g: Label) -> Row
     next.count = 0;
     let mut k = 0;
     while k < count {
-        let station = row.stations[k];
-        let label = row.labels[k];
+        let e = entry(row, k);
+        let label = e.label;
         if label::is_above(g, label) {
-            next = push(next, station, label);
+            next = push(next, e);
         }
         k += 1;
     }
@@ -107,10 +145,8 @@ fn remove_at(mut row: Row, place: u8) -> Row
     row.count = count;
     let mut k = place as usize;
     while k < last {
-        let station = row.stations[k + 1];
-        let label = row.labels[k + 1];
-        row.stations[k] = station;
-        row.labels[k] = label;
+        let e = entry(row, k + 1);
+        row = with_entry(row, k, e);
         k += 1;
     }
     row
@@ -128,29 +164,26 @@ fn with_room(row: Row) -> Row
 }
 
 // The row with the entry in the place of the one that names its station, or last.
-fn put(row: Row, station: u8, label: Label) -> Row
+fn put(row: Row, e: Successor) -> Row
     requires { ⌜ row .count ≤ rowLimit ⌝ }
-    ensures { λ r. ⌜ rowOf r ≡ put (successor station label) (rowOf row) ⌝ }
+    ensures { λ r. ⌜ rowOf r ≡ put (successorOf e) (rowOf row) ⌝ }
 {
     let count = row.count;
+    let station = e.station;
     let found = find(row, count, station);
     let place = found.place;
     if count <= place {
-        return push(with_room(row), station, label);
+        return push(with_room(row), e);
     }
-    let at = place as usize;
-    let mut next = row;
-    next.stations[at] = station;
-    next.labels[at] = label;
-    next
+    with_entry(row, place as usize, e)
 }
 
-// The row of a station that takes the label g by a reply with the label v from j.
-pub fn adopted(row: Row, g: Label, j: u8, v: Label) -> Row
+// The row of a station that takes the label g by a reply from e.
+pub fn adopted(row: Row, g: Label, e: Successor) -> Row
     requires { ⌜ row .count ≤ rowLimit ⌝ }
-    ensures { λ r. ⌜ rowOf r ≡ put (successor j v) (under g (rowOf row)) ⌝ }
+    ensures { λ r. ⌜ rowOf r ≡ put (successorOf e) (under g (rowOf row)) ⌝ }
 {
-    put(under(row, g), j, v)
+    put(under(row, g), e)
 }
 
 // What a row loses: whether an entry leaves it, and whether this empties it.
@@ -159,15 +192,32 @@ pub struct Loss {
     pub emptied: bool,
 }
 
-// What the row loses with j.
-pub fn loss_of(row: Row, j: u8) -> Loss
+// The place of the entry that leaves: the one that names j, where all leave or its serial number is at most this; else the row's count.
+fn leaving_place(row: Row, j: u8, all: bool, serial: u64) -> u8
     requires { ⌜ NamesOnce row ⌝ }
-    ensures removed { λ r. ⌜ r .removed ≡ someIn (names j) (rowOf row) ⌝ }
-    ensures emptied { λ r. ⌜ r .emptied ≡ empties (names j) (rowOf row) ⌝ }
+    ensures { λ r. ⌜ r ≡ indexOf (leaving all j serial) (rowOf row) ⌝ }
 {
     let count = row.count;
     let found = find(row, count, j);
-    let removed = found.place < count;
+    let at = found.place;
+    if count <= at {
+        return count;
+    }
+    let kept = row.serials[at as usize];
+    if all | (kept <= serial) {
+        return at;
+    }
+    count
+}
+
+// What the row loses with j.
+pub fn loss_of(row: Row, j: u8, all: bool, serial: u64) -> Loss
+    requires { ⌜ NamesOnce row ⌝ }
+    ensures removed { λ r. ⌜ r .removed ≡ someIn (leaving all j serial) (rowOf row) ⌝ }
+    ensures emptied { λ r. ⌜ r .emptied ≡ empties (leaving all j serial) (rowOf row) ⌝ }
+{
+    let count = row.count;
+    let removed = leaving_place(row, j, all, serial) < count;
     Loss {
         removed: removed,
         emptied: removed & (count == 1),
@@ -175,13 +225,12 @@ pub fn loss_of(row: Row, j: u8) -> Loss
 }
 
 // The row without j: the entry at the place found is removed.
-pub fn without_station(row: Row, j: u8) -> Row
+pub fn without_station(row: Row, j: u8, all: bool, serial: u64) -> Row
     requires { ⌜ NamesOnce row ⌝ }
-    ensures { λ r. ⌜ rowOf r ≡ without (names j) (rowOf row) ⌝ }
+    ensures { λ r. ⌜ rowOf r ≡ without (leaving all j serial) (rowOf row) ⌝ }
 {
     let count = row.count;
-    let found = find(row, count, j);
-    let place = found.place;
+    let place = leaving_place(row, j, all, serial);
     if place < count {
         return remove_at(row, place);
     }

@@ -25,24 +25,24 @@ settled i false net = rw (and-true (isActive net i), set-getD (net .active) i fa
 
 module _ (net : Network) (p : Packet) (h : Holding) (k : Holds net p h) where
   -- A label taken, with its row; the source is passive then.
-  pub holding-adopts : (g : Label) (row : Row) → rowOf row ≡ put (successor (p .sender) (p .label)) (under g (rowOf (h .row)))
+  pub holding-adopts : (g : Label) (row : Row) → rowOf row ≡ put (successor (p .sender) (p .label) (p .serial)) (under g (rowOf (h .row)))
       → holding p (record { label = g; row = row; kept = h .kept; active = h .active && not (eqb (p .receiver) (p .source)) }) net
-      ≡ settle (p .receiver) (replyOf p) (adopt (p .receiver) (p .sender) (replyOf p) g net)
+      ≡ settle (p .receiver) (replyOf p) (adopt (p .receiver) (p .sender) (p .serial) (replyOf p) g net)
   unfolding holding settle adopt replyOf setLabels setRows setRecords setActives
   holding-adopts g row e =
       rw (e, ← k .row-is, ← k .record-is, ← k .active-is)
       (rw (set-getD (net .records) (place (p .receiver) (p .source)) model.zeroRecord)
-      (settled (p .receiver) (eqb (p .receiver) (p .source)) (adopt (p .receiver) (p .sender) (replyOf p) g net)))
+      (settled (p .receiver) (eqb (p .receiver) (p .source)) (adopt (p .receiver) (p .sender) (p .serial) (replyOf p) g net)))
 
   -- A reply that is discarded, and one that matches.
   pub reply-discarded : eqb (p .receiver) (p .destination) || not (matches (p .receiver) (replyOf p) net) ≡ true
-      → effect 111 0 net ≡ onReply (p .receiver) (p .sender) (replyOf p) net
+      → effect 111 0 net ≡ onReply (p .receiver) (p .sender) (p .serial) (replyOf p) net
   unfolding onReply replyOf
   reply-discarded e = rw e
 
   pub reply-matched : (c : Label) (o : Outcome) → c ≡ cachedAt (p .receiver) (replyOf p) net → o ≡ newLabel (h .label) c (p .label)
       → eqb (p .receiver) (p .destination) || not (matches (p .receiver) (replyOf p) net) ≡ false
-      → onOutcome (p .receiver) (p .sender) (replyOf p) o net ≡ onReply (p .receiver) (p .sender) (replyOf p) net
+      → onOutcome (p .receiver) (p .sender) (p .serial) (replyOf p) o net ≡ onReply (p .receiver) (p .sender) (p .serial) (replyOf p) net
   unfolding onReply replyOf
   reply-matched c o q d e = rw (d, q, k .label-is, e)
 

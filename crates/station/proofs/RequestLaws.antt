@@ -42,7 +42,7 @@ module _ (net : Network) (p : Packet) (h : Holding) (k : Holds net p h) where
   engage-replies d e = rw (ne-eqb (p .receiver) (p .destination) d, k .label-is, k .row-is, e)
 
   pub engage-broadcasts : p .receiver ≢ p .destination → canReply (h .label) (rowOf (h .row)) (requestOf p) ≡ false
-      → sending 103 (copies net (p .receiver) (request (onward (h .label) (requestOf p)))) net ≡ engage (p .receiver) (p .sender) (requestOf p) net
+      → sending 103 (p .receiver) (copies net (p .receiver) (request (onward (h .label) (requestOf p)))) net ≡ engage (p .receiver) (p .sender) (requestOf p) net
   unfolding engage requestOf
   engage-broadcasts d e = rw (ne-eqb (p .receiver) (p .destination) d, k .label-is, k .row-is, e)
 

@@ -9,10 +9,10 @@ use Rattle.base.specs.Choice.{if_then_else_}
 use Rattle.base.specs.Lists.{below}
 use Rattle.model.specs.Memory as model
 use Rattle.model.specs.Memory.{Network, linkIn, labelAt, rowAt, recordAt, isActive, setLabel, setRow, setRecord, setActive}
-use Rattle.model.specs.Calls.{Effect, packet, sending}
+use Rattle.model.specs.Calls.{Effect, packet, nextSerial, sending}
 use Rattle.rows.specs.View.{rowOf}
 use Rattle.network.specs.declared.Packet.{Packet}
-use Rattle.network.specs.View.{recordOf, bodyOf, packetOf}
+use Rattle.network.specs.View.{recordOf, bodyOf, packetOf, numbered}
 use Rattle.station.specs.declared.Holding.{Holding}
 use Rattle.station.specs.declared.Reaction.{Reaction}
 
@@ -21,7 +21,7 @@ unfoldable pub sentBy : ℕ → List Bool → ℕ → ℕ → Packet → List mo
 sentBy scope links n a p =
     if eqb scope 0 then []
     else if eqb scope 1 then packetOf p ∷ []
-    else map (λ b. packet a b (bodyOf p)) (below n (linkIn links a))
+    else map (λ b. packet a b (bodyOf p) (p .serial)) (below n (linkIn links a))
 
 -- Where the receiver of p holds what p may change: its label and row for p's destination, its record for p's source, and whether it is active.
 -- The tables have these places.
@@ -49,7 +49,8 @@ holding p h net =
     let t = p .destination in
     setActive i (h .active) (setRecord i (p .source) (recordOf (h .kept)) (setRow i t (rowOf (h .row)) (setLabel i t (h .label) net)))
 
--- What a reaction to p makes of the network.
+-- What a reaction to p makes of the network: what is sent takes the receiver's next serial number.
 unfoldable pub reacts : Reaction → Packet → Network → Effect
 reacts r p net =
-    sending (r .answer) (sentBy (r .scope) (net .links) (net .n) (p .receiver) (r .packet)) (holding p (r .holding) net)
+    let i = p .receiver in
+    sending (r .answer) i (sentBy (r .scope) (net .links) (net .n) i (numbered (r .packet) (nextSerial net i))) (holding p (r .holding) net)

@@ -19,8 +19,8 @@ pub struct Holding {
     pub active: bool,
 }
 
-// What a station does with a packet: what it holds afterwards, its answer, and the packet that it sends, to nobody (scope 0), to the
-// packet's receiver (1), or a copy to each of its up neighbours (2).
+// What a station does with a packet: what it holds afterwards, its answer, and the packet that it sends, not numbered, to nobody (scope 0),
+// to the packet's receiver (1), or a copy to each of its up neighbours (2).
 pub struct Reaction {
     pub holding: Holding,
     pub packet: Packet,

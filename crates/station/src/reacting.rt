@@ -1,8 +1,8 @@
 // A station's reaction to a packet: silent, with a reply, or by the packet's kind.
 ghost use mathlib.Core.Path.{_≡_};
 ghost use Rattle.model.specs.Memory.{Network, reply};
-ghost use Rattle.model.specs.Calls.{effect, packet, markPassed, replyTo};
-ghost use Rattle.network.specs.View.{recordOf, packetOf};
+ghost use Rattle.model.specs.Calls.{effect, markPassed, replyTo};
+ghost use Rattle.network.specs.View.{recordOf, bodyOf};
 ghost use Rattle.station.specs.Reacting.{Holds, reacts};
 use crate::Holding;
 use crate::Reaction;
@@ -33,9 +33,10 @@ fn passed(kept: Record) -> Record
     next
 }
 
-// The receiver's reply to x, with its label.
+// The receiver's reply to x, with its label, not numbered.
 fn reply_to(p: Packet, x: u8, label: Label) -> Packet
-    ensures { λ r. ⌜ packetOf r ≡ packet (p .receiver) x (reply (record { source = p .source; number = p .number .0; destination = p .destination; label = label })) ⌝ }
+    ensures { λ r. ⌜ bodyOf r ≡ reply (record { source = p .source; number = p .number .0; destination = p .destination; label = label }) ⌝ }
+    ensures { λ r. ⌜ (r .sender ≡ p .receiver) × (r .receiver ≡ x) ⌝ }
 {
     let i = p.receiver;
     let source = p.source;

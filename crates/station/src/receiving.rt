@@ -23,7 +23,7 @@ pub fn react(
 ) -> Reaction
     requires { ⌜ (0 < p .kind) × (p .kind < 3) × Ready p held ⌝ }
     ensures { λ r. ⌜ ((net : Network) → Holds net p held → LastRequest net p (number .0) sought → net .links ≡ links
-        → reacts r p net ≡ receive (p .receiver) (p .sender) (bodyOf p) net) ⌝ }
+        → reacts r p net ≡ receive (p .receiver) (p .sender) (p .serial) (bodyOf p) net) ⌝ }
 {
     let kind = p.kind;
     if kind == 1 {

@@ -20,6 +20,7 @@ use label::label_of;
 use network::Packet;
 use network::RequestNumber;
 use network::links::link_up;
+use rows::Successor;
 use rows::adopted;
 
 // Whether V's number and destination both match: at the source its last request, elsewhere its record.
@@ -74,18 +75,24 @@ pub struct Settled {
 // i takes the label g, with a row under it, and is passive if it is the source.
 fn adopts(p: Packet, held: Holding, g: Label) -> Holding
     requires { ⌜ held .row .count ≤ rowLimit ⌝ }
-    ensures { λ r. ⌜ ((net : Network) → Holds net p held → holding p r net ≡ settle (p .receiver) (replyOf p) (adopt (p .receiver) (p .sender) (replyOf p) g net)) ⌝ }
+    ensures { λ r. ⌜ ((net : Network) → Holds net p held → holding p r net ≡ settle (p .receiver) (replyOf p) (adopt (p .receiver) (p .sender) (p .serial) (replyOf p) g net)) ⌝ }
     ensures kept { λ r. ⌜ r .kept ≡ held .kept ⌝ }
 {
     let i = p.receiver;
     let j = p.sender;
     let source = p.source;
     let v = p.label;
+    let serial = p.serial;
     let row = held.row;
     let active = held.active;
     let mut next = held;
+    let e = Successor {
+        label: v,
+        serial: serial,
+        station: j,
+    };
     next.label = g;
-    next.row = adopted(row, g, j, v);
+    next.row = adopted(row, g, e);
     next.active = active & (i != source);
     next
 }
@@ -94,7 +101,7 @@ fn adopts(p: Packet, held: Holding, g: Label) -> Holding
 fn settles(p: Packet, held: Holding, told: NewLabel) -> Settled
     requires { ⌜ held .row .count ≤ rowLimit ⌝ }
     ensures { λ r. ⌜ ((net : Network) → Holds net p held
-        → onOutcome (p .receiver) (p .sender) (replyOf p) (outcome told) net ≡ passOn (r .answer) (p .receiver) (replyOf p) (holding p (r .holding) net)) ⌝ }
+        → onOutcome (p .receiver) (p .sender) (p .serial) (replyOf p) (outcome told) net ≡ passOn (r .answer) (p .receiver) (replyOf p) (holding p (r .holding) net)) ⌝ }
     ensures kept { λ r. ⌜ r .holding .kept ≡ held .kept ⌝ }
 {
     match told {
@@ -164,7 +171,7 @@ pub fn on_reply(
 ) -> Reaction
     requires { ⌜ Ready p held ⌝ }
     ensures { λ r. ⌜ ((net : Network) → Holds net p held → LastRequest net p (number .0) sought → net .links ≡ links
-        → reacts r p net ≡ onReply (p .receiver) (p .sender) (replyOf p) net) ⌝ }
+        → reacts r p net ≡ onReply (p .receiver) (p .sender) (p .serial) (replyOf p) net) ⌝ }
 {
     if is_discarded(p, held, number, sought) {
         return silent(p, held, 111);

@@ -5,7 +5,7 @@ ghost use Prim.Native.Nat.{ℕ, _+_, _<_, _≤_};
 ghost use lib.ListN.{length};
 ghost use Rattle.base.specs.Lists.{removeAt};
 ghost use Rattle.model.specs.Memory.{Network, error, airLimit};
-ghost use Rattle.model.specs.Calls.{errors};
+ghost use Rattle.model.specs.Calls.{nextSerial, errors};
 ghost use Rattle.network.specs.declared.Packet.{Packet};
 ghost use Rattle.network.specs.View.{bodyOf, packetsOf};
 ghost use Rattle.station.specs.Reacting.{sentBy};
@@ -18,9 +18,9 @@ use network::packets::remove;
 use network::packets::replace;
 
 // How many packets that is.
-pub fn copies(scope: u8, links: [bool; 256], n: u8, a: u8, p: Packet) -> u8
+pub fn copies(scope: u8, links: [bool; 256], n: u8, a: u8) -> u8
     requires { ⌜ (n ≤ 16) × (a < 16) ⌝ }
-    ensures { λ r. ⌜ r ≡ length (sentBy scope links n a p) ⌝ }
+    ensures { λ r. ⌜ ((p : Packet) → r ≡ length (sentBy scope links n a p)) ⌝ }
 {
     if scope == 0 {
         return 0;
@@ -82,7 +82,7 @@ pub fn exchange(
 
 // The scope of an error with this mask: nobody where no row was emptied.
 pub fn error_scope(mask: u16) -> u8
-    ensures { λ r. ⌜ ((net : Network) (a : ℕ) (p : Packet) → bodyOf p ≡ error mask → sentBy r (net .links) (net .n) a p ≡ errors net a mask) ⌝ }
+    ensures { λ r. ⌜ ((net : Network) (a : ℕ) (p : Packet) → bodyOf p ≡ error mask → p .serial ≡ nextSerial net a → sentBy r (net .links) (net .n) a p ≡ errors net a mask) ⌝ }
 {
     if mask == 0 {
         return 0;

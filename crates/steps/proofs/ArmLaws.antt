@@ -4,19 +4,19 @@ use mathlib.Core.Path.{_≡_, refl, sym, ap, ap₂, subst, _∙_}
 use mathlib.Core.Logic.{_≢_, _⊎_, inl, inr}
 use mathlib.Core.Bool.{Bool, true, false, not, _&&_, _||_, or-true, or-false, and-true, and-false}
 use mathlib.Core.List.{List, []}
-use lib.ListN.{getD, set, length-set}
+use lib.ListN.{length, getD, set, length-set}
 use lib.Seq.{set-getD}
-use lib.Dec.{eqb}
+use lib.Dec.{ltb, eqb}
 use native.Mathlib.Omega.{arith}
 use borrow.Author.Tests.{eqb-true, ne-eqb}
 use Rattle.base.specs.Choice.{if_then_else_}
-use Rattle.base.specs.Results.{refused, accepted}
+use Rattle.base.specs.Results.{accepted}
 use Rattle.base.proofs.Lists.{map-set}
 use Rattle.base.specs.Lists.{tabulate}
-use Rattle.model.specs.Memory.{pairPlace, place, memoryInRange, setLinks, setActives, setRows}
-use Rattle.model.specs.Calls.{Call, Up, GiveUp, Expire, Effect, effect, notPair, step, hopLimit, follow}
+use Rattle.model.specs.Memory.{pairPlace, place, airLimit, memoryInRange, setLinks, setActives, setRows}
+use Rattle.model.specs.Calls.{Call, Up, GiveUp, Expire, Effect, effect, usedUp, limited, notPair, step, hopLimit, follow}
 use Rattle.model.specs.Events.{notEvent, callOf, Event, calls, traces, noEvent, eventOf}
-use Rattle.model.proofs.Refusals.{station-tells, pair-tells, up-accepted, give-up-accepted, expire-accepted}
+use Rattle.model.proofs.Refusals.{station-tells, pair-tells, up-accepted, give-up-accepted, expire-accepted, limited-refused, limited-accepted}
 use Rattle.model.proofs.Links.{link-pair}
 use Rattle.model.proofs.Tracing.{trace-follows}
 use Rattle.model.proofs.EventLaws.{call-1, call-4, call-5, event-none, event-trace, event-call}
@@ -41,7 +41,7 @@ use Rattle.steps.proofs.HappenLaws.{happens-none, happens-trace, happen
 use Rattle.steps.proofs.RunLaws.{airing, Shape, shape-sized, shape-ranged}
 
 -- A row of no successors.
-no-successors : (row : Row) → rowOf (record { labels = row .labels; stations = row .stations; count = 0 }) ≡ []
+no-successors : (row : Row) → rowOf (record { labels = row .labels; serials = row .serials; stations = row .stations; count = 0 }) ≡ []
 unfolding rowOf tabulate
 no-successors row = refl
 
@@ -81,6 +81,15 @@ class-cut {kind} {carried} = go (eqb kind 1 || eqb kind 4 || eqb kind 5) (eqb ki
     go false false false p true q true r e = inr (eqb-true kind 6 q, eqb-true carried 3 r)
     go false false false p true q false r e = absurd (omega arith)
     go false false false p false q v r e = absurd (omega arith)
+
+-- An event is a call that 13 and 7 are left to turn down: its effect, whether a station has used up its serial numbers, and the packets in the air
+-- after it.
+pub record Does (m : Memory) (event : Event) (used : Bool) (total : ℕ) (e : Effect) : Type 0 where
+  pub call : Call
+  pub is : event ≡ calls call
+  pub steps : step call (view m) ≡ limited (view m) e
+  pub used-is : usedUp (view m) e ≡ used
+  pub total-is : length (e .net .air) ≡ total
 
 -- What is gathered where an event looks.
 pub seen : (memory : Memory) (packets : List Packet) (count : ℕ) {kind a b : ℕ} (w : Spot) {pair : ℕ} → memoryInRange (view (airing memory packets count)) ≡ true → memory .n ≤ 16
@@ -145,7 +154,7 @@ module _ {memory : Memory} {packets : List Packet} {count kind a b r : ℕ} (h :
     unfolding Tests
     trace-passes e = let is = event-trace kind a b is-event e in (is, subst (λ z. Tests (view m) z r) is (h .tests) .1 zero)
 
-    -- A call that is then accepted, or turned down with 7.
+    -- A call that is then accepted.
     module _ (c : Call) (is : eventOf kind a b ≡ calls c) where
       pub happens-accepted : (next : Memory) (answer sent : ℕ) (e : Effect) → step c (view m) ≡ accepted e → effect answer sent (view next) ≡ e
           → Happens m (eventOf kind a b) (happened next answer sent 0)
@@ -153,8 +162,16 @@ module _ {memory : Memory} {packets : List Packet} {count kind a b r : ℕ} (h :
           happens-call m (eventOf kind a b) c (done next answer sent) is
           (called-accepted m c (done next answer sent) e (shape-sized count (h .shape)) s same)
 
-      pub happens-7 : step c (view m) ≡ refused 7 → Happens m (eventOf kind a b) (happened m 7 0 0)
-      happens-7 s = happens-call m (eventOf kind a b) c (done m 7 0) is (called-refused m (step c (view m)) 7 s)
+    -- A call that 13 and 7 are left to turn down, by what the code counted.
+    module _ {used : Bool} {total : ℕ} {e : Effect} (d : Does m (eventOf kind a b) used total e) {stop : ℕ} (s : stop ≡ (if used then 13 else if ltb airLimit total then 7 else 0)) where
+      pub happens-stopped : stop ≢ 0 → Happens m (eventOf kind a b) (happened m stop 0 0)
+      happens-stopped h =
+          happens-call m (eventOf kind a b) (d .call) (done m stop 0) (d .is)
+          (called-refused m (step (d .call) (view m)) stop (d .steps ∙ limited-refused (view m) e (d .used-is) (d .total-is) s h))
+
+      pub happens-done : stop ≡ 0 → (next : Memory) (answer sent : ℕ) → effect answer sent (view next) ≡ e → Happens m (eventOf kind a b) (happened next answer sent 0)
+      happens-done h next answer sent same =
+          happens-accepted (d .call) (d .is) next answer sent e (d .steps ∙ limited-accepted (view m) e (d .used-is) (d .total-is) s h) same
 
     -- Two stations stand at their own places.
     pub both-below : notPair (view m) a b ≡ false → (a < 16) × (b < 16) × (a ≢ b) × (a % 16 ≡ a) × (b % 16 ≡ b)
@@ -166,7 +183,7 @@ module _ {memory : Memory} {packets : List Packet} {count kind a b r : ℕ} (h :
     -- Up, Give up and Expire: all that one of them may change is written, changed or not.
     module _ (w : Spot) (spot : kind ≢ 6 → (w .station ≡ a % 16) × (w .destination ≡ b % 16) × (w .source ≡ 0))
         {pair cell : ℕ} {row : Row} (pair-is : pair ≡ pairPlace (w .station) (w .destination)) (cell-is : cell ≡ place (w .station) (w .destination))
-        (row-is : row ≡ record { labels = getD (memory .rows) cell zeroRow .labels; stations = getD (memory .rows) cell zeroRow .stations; count = if eqb kind 5 then 0 else getD (memory .rows) cell zeroRow .count }) where
+        (row-is : row ≡ record { labels = getD (memory .rows) cell zeroRow .labels; serials = getD (memory .rows) cell zeroRow .serials; stations = getD (memory .rows) cell zeroRow .stations; count = if eqb kind 5 then 0 else getD (memory .rows) cell zeroRow .count }) where
       abbrev light : Air → Memory
       light air = record {
         s = memory .s;
@@ -180,6 +197,7 @@ module _ {memory : Memory} {packets : List Packet} {count kind a b r : ℕ} (h :
         active = set (memory .active) (w .station) (getD (memory .active) (w .station) false && not (eqb kind 4));
         links = set (memory .links) pair (getD (memory .links) pair false || eqb kind 1);
         n = memory .n;
+        serials = memory .serials;
       }
 
       pub light-shape : {air : Air} → Shape (light air) packets
@@ -189,6 +207,7 @@ module _ {memory : Memory} {packets : List Packet} {count kind a b r : ℕ} (h :
         records-length = h .shape .records-length;
         sought-length = h .shape .sought-length;
         active-length = length-set (memory .active) (w .station) _ ∙ h .shape .active-length;
+        serials-length = h .shape .serials-length;
         packets-length = h .shape .packets-length;
       }
 

@@ -6,17 +6,17 @@ use mathlib.Core.Bool.{Bool, true, false, _&&_, _||_}
 use mathlib.Core.List.{List, _++_, append-nil}
 use lib.ListN.{length, getD, set, length-set}
 use lib.Seq.{set-getD}
-use lib.Dec.{eqb, leb}
+use lib.Dec.{ltb, leb, eqb}
 use native.Mathlib.Omega.{arith}
 use borrow.Author.Tests.{eqb-true, eqb-false, leb-false}
 use Rattle.base.specs.Choice.{if_then_else_}
 use Rattle.base.specs.Lists.{removeAt}
-use Rattle.base.specs.Numbers.{maxU32}
+use Rattle.base.specs.Numbers.{maxU32, maxU64}
 use Rattle.base.proofs.Booleans.{clash, Trichotomy, less, equal, more, trichotomy}
 use Rattle.label.specs.declared.Label.{Label}
 use Rattle.model.specs.Memory as model
-use Rattle.model.specs.Memory.{place, airLimit}
-use Rattle.model.specs.Calls.{Solicit}
+use Rattle.model.specs.Memory.{request, place, airLimit}
+use Rattle.model.specs.Calls.{Solicit, Effect, effect, countOn, neighbours, copies}
 use Rattle.model.specs.Events.{eventOf}
 use Rattle.model.proofs.EventLaws.{event-kinds, call-3}
 use Rattle.rows.specs.View.{zeroRow}
@@ -24,22 +24,24 @@ use Rattle.network.specs.declared.RequestNumber.{RequestNumber}
 use Rattle.network.specs.declared.Packet.{Packet}
 use Rattle.network.specs.declared.Air.{Air}
 use Rattle.network.specs.declared.Memory.{Memory}
-use Rattle.network.specs.View.{zeroNumber, zeroRecord, zeroPacket, packetsOf, labelOf, view}
+use Rattle.network.specs.View.{zeroNumber, zeroRecord, zeroPacket, packetsOf, numbered, labelOf, view}
 use Rattle.network.proofs.ViewLaws.{number-at}
 use Rattle.network.proofs.PacketLaws.{packets-count}
 use Rattle.station.specs.declared.Holding.{Holding}
 use Rattle.station.specs.Reacting.{sentBy}
 use Rattle.station.specs.Replying.{Ready}
+use Rattle.station.proofs.Laws.{sent-counted, numbered-body}
 use Rattle.decisions.specs.declared.changing.Spot.{Spot}
 use Rattle.decisions.specs.declared.changing.Change.{Change}
-use Rattle.decisions.specs.Refusing.{Passes}
+use Rattle.decisions.specs.Refusing.{Passes, sendingRefusal}
 use Rattle.decisions.specs.Changing.{classOf, Solicits, reaction, Reacts, Loses, Doubles}
+use Rattle.decisions.proofs.RefusalLaws.{first-alone}
 use Rattle.steps.specs.Happens.{happened, Happens}
 use Rattle.steps.proofs.PacketMoves.{removeAt-length, exchanged}
 use Rattle.steps.proofs.RunLaws.{airing, Shape}
-use Rattle.steps.proofs.ArmLaws.{Tested, known, is-event, passes, both-below}
-use Rattle.steps.proofs.AirLaws.{solicit-7, solicit-happens, lose-there, lose-happens, duplicate-7, duplicate-happens}
-use Rattle.steps.proofs.DeliverLaws.{arrives, carried, ready, reaction-7, reaction-happens}
+use Rattle.steps.proofs.ArmLaws.{Does, Tested, known, is-event, passes, happens-stopped, happens-done, both-below}
+use Rattle.steps.proofs.AirLaws.{soliciting, solicit-does, solicit-done, lose-there, losing, lose-does, lose-done, doubled, duplicate-does, duplicate-done}
+use Rattle.steps.proofs.DeliverLaws.{arrives, carried, ready, reacting, reaction-does, reaction-done}
 
 -- The kinds of every other event.
 class-other : (kind carried : ℕ) → classOf kind carried ≢ 0 → classOf kind carried ≢ 1 → classOf kind carried ≢ 2 → 0 < kind → kind < 10
@@ -138,12 +140,19 @@ module _ {memory : Memory} {packets : List Packet} {count kind a b r : ℕ} {w :
     abbrev stays : List model.Packet
     stays = if c .drops then removeAt (a % 128) (packetsOf packets count) else packetsOf packets count
 
-    abbrev sent : List model.Packet
-    sent = sentBy (c .scope) (memory .links) (memory .n) (w .station) (c .packet)
+    -- The station's last serial number, the packet as it is sent, and what is sent.
+    abbrev serial : ℕ
+    serial = getD (memory .serials) (w .station) 0
 
-    -- The memory after it.
-    abbrev pub changed : Air → Memory
-    changed air = record {
+    abbrev outgoing : Packet
+    outgoing = if eqb kind 8 then c .packet else numbered (c .packet) (serial + 1)
+
+    abbrev sent : List model.Packet
+    sent = sentBy (c .scope) (memory .links) (memory .n) (w .station) outgoing
+
+    -- The memory after it, with the station's serial number.
+    abbrev pub changed : ℕ → Air → Memory
+    changed next air = record {
       s = set (memory .s) cell (c .holding .label .s .0);
       m = set (memory .m) cell (c .holding .label .m);
       d = set (memory .d) cell (c .holding .label .d);
@@ -155,10 +164,11 @@ module _ {memory : Memory} {packets : List Packet} {count kind a b r : ℕ} {w :
       active = set (memory .active) (w .station) (c .holding .active);
       links = memory .links;
       n = memory .n;
+      serials = set (memory .serials) (w .station) next;
     }
 
-    pub changed-shape : {air : Air} {packets′ : List Packet} → length packets′ ≡ airLimit → Shape (changed air) packets′
-    changed-shape long = let shape = g .tested .shape in record {
+    pub changed-shape : (next : ℕ) {air : Air} {packets′ : List Packet} → length packets′ ≡ airLimit → Shape (changed next air) packets′
+    changed-shape next long = let shape = g .tested .shape in record {
       labels = record {
         s-length = length-set (memory .s) cell _ ∙ shape .labels .s-length;
         m-length = length-set (memory .m) cell _ ∙ shape .labels .m-length;
@@ -168,15 +178,9 @@ module _ {memory : Memory} {packets : List Packet} {count kind a b r : ℕ} {w :
       records-length = length-set (memory .records) slot _ ∙ shape .records-length;
       sought-length = length-set (memory .sought) (w .station) _ ∙ shape .sought-length;
       active-length = length-set (memory .active) (w .station) _ ∙ shape .active-length;
+      serials-length = length-set (memory .serials) (w .station) _ ∙ shape .serials-length;
       packets-length = long;
     }
-
-    abbrev Full : Type 0
-    Full = airLimit < length stays + length sent → Happens m (eventOf kind a b) (happened m 7 0 0)
-
-    abbrev Done : Type 0
-    Done = (packets′ : List Packet) → length stays + length sent ≤ airLimit → packetsOf packets′ (length stays + length sent) ≡ stays ++ sent
-        → Happens m (eventOf kind a b) (happened (changed (record { packets = packets′; count = length stays + length sent })) (c .answer) (if eqb kind 8 then 0 else length sent) 0)
 
     -- A packet that goes is there.
     pub goes : c .drops ≡ true → a % 128 < count
@@ -195,73 +199,85 @@ module _ {memory : Memory} {packets : List Packet} {count kind a b r : ℕ} {w :
         go true d = removeAt-length packets count (a % 128) (goes d)
         go false d = packets-count packets count
 
+    -- What the event does where neither 13 nor 7 turns it down: an effect, which is that of the memory after it.
+    abbrev told : ℕ
+    told = if eqb kind 8 then 0 else length sent
+
+    record Ending : Type 0 where
+      whole : Effect
+      left : Does m (eventOf kind a b) (leb maxU64 serial && ltb 0 told) (length stays + length sent) whole
+      made : (packets′ : List Packet) → packetsOf packets′ (length stays + length sent) ≡ stays ++ sent
+          → effect (c .answer) told (view (changed (countOn serial told) (record { packets = packets′; count = length stays + length sent }))) ≡ whole
+
     -- Solicit.
     module _ (e : kind ≡ 3) where
       spots : (w .station ≡ a % 16) × (w .destination ≡ b % 16) × (w .source ≡ 0)
       spots = g .call-spot (λ q. omega arith)
 
-      solicit-full : Full
-      solicit-full full =
-          let so = does .0 e in
-          solicit-7 (g .tested) (g .zero-is) e cell l (c .packet) (rw (spots .0, spots .1) at (g .cell-is)) (g .label-is)
-          (rw (spots .0, spots .1) at (so .body-is)) (rw (so .drops-is, so .scope-is, packets-count packets count, spots .0) at full)
+      request-sent : sentBy 2 (memory .links) (memory .n) (a % 16) (numbered (c .packet) (getD (memory .serials) (a % 16) 0 + 1))
+          ≡ copies (view m) (a % 16) (request (record { source = a % 16; number = getD (memory .numbers) (a % 16) zeroNumber .0 + 1; destination = b % 16; label = l; reset = false }))
+      unfolding sentBy copies neighbours view
+      request-sent = rw (numbered-body (c .packet) (getD (memory .serials) (a % 16) 0 + 1), rw (spots .0, spots .1) at (does .0 e .body-is))
 
-      solicit-done : Done
+      solicit-ends : Ending
       unfolding labelOf
-      solicit-done packets′ room f =
+      solicit-ends =
           let so = does .0 e in
-          let law =
-          solicit-happens (g .tested) (g .zero-is) e cell l (c .packet) (rw (spots .0, spots .1) at (g .cell-is)) (g .label-is)
-          (rw (spots .0, spots .1) at (so .body-is)) packets′ (rw (so .drops-is, so .scope-is, packets-count packets count, spots .0) at room)
-          (rw (so .drops-is, so .scope-is, packets-count packets count, spots .0) at f) in
-          rw (
-            e,
-            so .holding-is,
-            so .number-is,
-            so .sought-is,
-            so .answer-is,
-            so .drops-is,
-            so .scope-is,
-            packets-count packets count,
-            g .label-is,
-            set-getD (memory .s) cell 0,
-            set-getD (memory .m) cell 0,
-            set-getD (memory .d) cell 0,
-            set-getD (memory .rows) cell zeroRow,
-            set-getD (memory .records) slot zeroRecord,
-            spots .0,
-            spots .1,
-          )
-          (rw e at law)
+          let at = rw (spots .0, spots .1) at (g .cell-is) in
+          let list = sentBy 2 (memory .links) (memory .n) (a % 16) (numbered (c .packet) (getD (memory .serials) (a % 16) 0 + 1)) in
+          record {
+            whole = soliciting (g .tested) (g .zero-is) e cell l list at (g .label-is) request-sent;
+            left = rw (e, so .drops-is, so .scope-is, packets-count packets count, spots .0) (rw e at (solicit-does (g .tested) (g .zero-is) e cell l list at (g .label-is) request-sent));
+            made = λ packets′ f.
+                rw (
+                  e,
+                  so .holding-is,
+                  so .number-is,
+                  so .sought-is,
+                  so .answer-is,
+                  so .drops-is,
+                  so .scope-is,
+                  packets-count packets count,
+                  g .label-is,
+                  set-getD (memory .s) cell 0,
+                  set-getD (memory .m) cell 0,
+                  set-getD (memory .d) cell 0,
+                  set-getD (memory .rows) cell zeroRow,
+                  set-getD (memory .records) slot zeroRecord,
+                  spots .0,
+                  spots .1,
+                )
+                (solicit-done (g .tested) (g .zero-is) e cell l list at (g .label-is) request-sent packets′ (rw (e, so .drops-is, so .scope-is, packets-count packets count, spots .0) at f));
+          }
 
     -- A request or a reply delivered.
     module _ (e : kind ≡ 6) (q : p .kind ≢ 3) where
-      at-receiver : (w .station ≡ p .receiver) × (w .destination ≡ p .destination) × (w .source ≡ p .source)
-      at-receiver = receiver e q
+      stays-rest : stays ≡ removeAt a (packetsOf packets count)
+      stays-rest = rw (does .1 .0 e .drops-is, arrives (g .tested) (g .zero-is) e .1)
 
-      react-full : Full
-      react-full full =
+      one-less : length stays ≡ count - 1
+      one-less = ap length stays-rest ∙ removeAt-length packets count a (arrives (g .tested) (g .zero-is) e .0)
+
+      react-ends : Ending
+      react-ends =
           let re = does .1 .0 e in
-          let s = at-receiver in
-          let there = arrives (g .tested) (g .zero-is) e in
-          reaction-7 (g .tested) (g .zero-is) e q cell slot l (rw (s .0, s .1) at (g .cell-is)) (rw (s .0, s .2) at (g .slot-is)) (g .label-is)
-          (reaction c) (rw (s .0) at (re .reacted)) (rw (re .drops-is, there .1, removeAt-length packets count a (there .0), s .0) at full)
+          let s = receiver e q in
+          let at = rw (s .0, s .1) at (g .cell-is) in
+          let kept-at = rw (s .0, s .2) at (g .slot-is) in
+          let list = sentBy (c .scope) (memory .links) (memory .n) (p .receiver) (numbered (c .packet) (getD (memory .serials) (p .receiver) 0 + 1)) in
+          record {
+            whole = reacting (g .tested) (g .zero-is) e q cell slot l at kept-at (g .label-is) (reaction c) (rw (s .0) at (re .reacted)) list refl;
+            left = rw (e, one-less, s .0)
+                (rw e at (reaction-does (g .tested) (g .zero-is) e q cell slot l at kept-at (g .label-is) (reaction c) (rw (s .0) at (re .reacted)) list refl));
+            made = λ packets′ f.
+                rw (e, re .number-is, re .sought-is, set-getD (memory .numbers) (w .station) zeroNumber, set-getD (memory .sought) (w .station) 0, one-less, s .0)
+                (reaction-done (g .tested) (g .zero-is) e q cell slot l at kept-at (g .label-is) (reaction c) (rw (s .0) at (re .reacted)) list refl packets′
+                (rw (e, one-less, stays-rest, s .0) at f));
+          }
 
-      react-done : Done
-      react-done packets′ room f =
-          let re = does .1 .0 e in
-          let s = at-receiver in
-          let there = arrives (g .tested) (g .zero-is) e in
-          let law =
-          reaction-happens (g .tested) (g .zero-is) e q cell slot l (rw (s .0, s .1) at (g .cell-is)) (rw (s .0, s .2) at (g .slot-is)) (g .label-is)
-          (reaction c) (rw (s .0) at (re .reacted)) packets′ (rw (re .drops-is, there .1, removeAt-length packets count a (there .0), s .0) at room)
-          (rw (re .drops-is, there .1, removeAt-length packets count a (there .0), s .0) at f) in
-          rw (e, re .number-is, re .sought-is, set-getD (memory .numbers) (w .station) zeroNumber, set-getD (memory .sought) (w .station) 0, re .drops-is, there .1, removeAt-length packets count a (there .0), s .0)
-          (rw e at law)
-
-    -- Where nothing changes at the station, only the air does.
-    unchanged : c .holding ≡ held → c .number ≡ last → c .sought ≡ sought → (air : Air) → changed air ≡ airing memory (air .packets) (air .count)
-    unfolding labelOf
+    -- Where nothing changes at the station and nothing is told, only the air does.
+    unchanged : c .holding ≡ held → c .number ≡ last → c .sought ≡ sought → (air : Air) → changed (countOn serial 0) air ≡ airing memory (air .packets) (air .count)
+    unfolding labelOf countOn
     unchanged x y z air =
         rw (
           x,
@@ -276,87 +292,93 @@ module _ {memory : Memory} {packets : List Packet} {count kind a b r : ℕ} {w :
           set-getD (memory .numbers) (w .station) zeroNumber,
           set-getD (memory .sought) (w .station) 0,
           set-getD (memory .active) (w .station) false,
+          set-getD (memory .serials) (w .station) 0,
         )
 
     -- Lose.
     module _ (e : kind ≡ 7) where
-      lose-done : Done
+      lose-ends : Ending
       unfolding sentBy
-      lose-done packets′ room f =
+      lose-ends =
           let lo = does .1 .1 .0 e in
           let there = lose-there (g .tested) (g .zero-is) e in
-          let gone : a % 128 < count = omega (arith, there) in
-          let zero-more : count - 1 + 0 ≡ count - 1 = omega arith in
-          let law =
-          lose-happens (g .tested) (g .zero-is) e packets′
-          (rw (lo .drops-is, lo .scope-is, removeAt-length packets count (a % 128) gone, zero-more) at f ∙ append-nil _) in
-          rw (e, unchanged (lo .holding-is) (lo .number-is) (lo .sought-is) (record { packets = packets′; count = length stays + length sent }), lo .answer-is, lo .drops-is, lo .scope-is, removeAt-length packets count (a % 128) gone, zero-more) (rw e at law)
-
-      lose-full : Full
-      unfolding sentBy
-      lose-full full =
-          let lo = does .1 .1 .0 e in
-          let there = lose-there (g .tested) (g .zero-is) e in
-          let more : airLimit < count - 1 + 0 = rw (lo .drops-is, lo .scope-is, removeAt-length packets count (a % 128) (omega (arith, there))) at full in
-          absurd (omega (arith, more, known (g .tested) .air-count))
+          let gone = removeAt-length packets count (a % 128) (omega (arith, there)) in
+          let none : count - 1 + 0 ≡ count - 1 = omega arith in
+          record {
+            whole = losing (g .tested) (g .zero-is) e;
+            left = rw (e, lo .drops-is, lo .scope-is, gone, none) (rw e at (lose-does (g .tested) (g .zero-is) e serial));
+            made = λ packets′ f.
+                rw (e, lo .answer-is, lo .drops-is, lo .scope-is, gone, none, unchanged (lo .holding-is) (lo .number-is) (lo .sought-is) (record { packets = packets′; count = count - 1 }))
+                (lose-done (g .tested) (g .zero-is) e packets′ (rw (e, lo .drops-is, lo .scope-is, gone, none) at f ∙ append-nil _));
+          }
 
     -- Duplicate.
     module _ (e : kind ≡ 8) where
-      double-full : Full
+      double-ends : Ending
       unfolding sentBy
-      double-full full =
+      double-ends =
           let du = does .1 .1 .1 e in
-          duplicate-7 (g .tested) (g .zero-is) e (rw (du .drops-is, du .scope-is, packets-count packets count) at full)
+          record {
+            whole = doubled (g .tested) (g .zero-is) e;
+            left = rw (e, du .drops-is, du .scope-is, packets-count packets count) (rw e at (duplicate-does (g .tested) (g .zero-is) e serial));
+            made = λ packets′ f.
+                rw (e, du .answer-is, du .drops-is, du .scope-is, packets-count packets count, unchanged (du .holding-is) (du .number-is) (du .sought-is) (record { packets = packets′; count = count + 1 }))
+                (duplicate-done (g .tested) (g .zero-is) e packets′ (rw (e, du .drops-is, du .scope-is, du .packet-is, packets-count packets count) at f));
+          }
 
-      double-done : Done
-      unfolding sentBy
-      double-done packets′ room f =
-          let du = does .1 .1 .1 e in
-          let law =
-          duplicate-happens (g .tested) (g .zero-is) e packets′ (rw (du .drops-is, du .scope-is, packets-count packets count) at room)
-          (rw (du .drops-is, du .scope-is, du .packet-is, packets-count packets count) at f) in
-          rw (e, unchanged (du .holding-is) (du .number-is) (du .sought-is) (record { packets = packets′; count = length stays + length sent }), du .answer-is, du .drops-is, du .scope-is, packets-count packets count) (rw e at law)
+    ending : Ending
+    ending = go which
+      where
+        go : (kind ≡ 3) ⊎ (((kind ≡ 6) × (p .kind ≢ 3)) ⊎ ((kind ≡ 7) ⊎ (kind ≡ 8))) → Ending
+        go (inl e) = solicit-ends e
+        go (inr (inl e)) = react-ends (e .0) (e .1)
+        go (inr (inr (inl e))) = lose-ends e
+        go (inr (inr (inr e))) = double-ends e
 
     -- With the numbers that the code counted.
-    module _ {stay number : ℕ} (x : stay ≡ (if c .drops then count - 1 else count)) (y : number ≡ length sent) where
+    module _ {stay number counted stop : ℕ} (x : stay ≡ (if c .drops then count - 1 else count))
+        (y : (q : Packet) → number ≡ length (sentBy (c .scope) (memory .links) (memory .n) (w .station) q)) (z : counted ≡ (if eqb kind 8 then 0 else number))
+        (s : stop ≡ sendingRefusal airLimit (stay + number) serial counted 0 0) where
       staying : stay ≡ length stays
       staying = x ∙ sym stays-length
 
-      pub change-7 : airLimit < stay + number → Happens m (eventOf kind a b) (happened m 7 0 0)
-      change-7 over = go which
-        where
-          full : airLimit < length stays + length sent
-          full = omega (arith, over, staying, y)
+      told-is : counted ≡ told
+      told-is = z ∙ ap (λ (k : ℕ). if eqb kind 8 then 0 else k) (y outgoing)
 
-          go : (kind ≡ 3) ⊎ (((kind ≡ 6) × (p .kind ≢ 3)) ⊎ ((kind ≡ 7) ⊎ (kind ≡ 8))) → Happens m (eventOf kind a b) (happened m 7 0 0)
-          go (inl e) = solicit-full e full
-          go (inr (inl e)) = react-full (e .0) (e .1) full
-          go (inr (inr (inl e))) = lose-full e full
-          go (inr (inr (inr e))) = double-full e full
+      stops : stop ≡ (if leb maxU64 serial && ltb 0 told then 13 else if ltb airLimit (length stays + length sent) then 7 else 0)
+      stops = rw (told-is, staying, y outgoing) at (first-alone airLimit (stay + number) serial counted 0 0 s refl)
 
-      -- What `exchange` gives where packet k goes, and what `transmit` gives where all stay.
-      abbrev pub ChangeMoved : List Packet → Type 0
-      ChangeMoved packets′ = ((c .drops ≡ true) × (packetsOf packets′ (stay + length sent) ≡ removeAt (a % 128) (packetsOf packets (stay + 1)) ++ sent))
-          ⊎ ((c .drops ≡ false) × (packetsOf packets′ (stay + length sent) ≡ packetsOf packets stay ++ sent))
+      pub change-stopped : stop ≢ 0 → Happens m (eventOf kind a b) (happened m stop 0 0)
+      change-stopped h = happens-stopped (g .tested) (g .zero-is) (ending .left) stops h
 
-      moved : (packets′ : List Packet) → ChangeMoved packets′ → packetsOf packets′ (length stays + length sent) ≡ stays ++ sent
-      moved packets′ (inl (d, e)) =
-          let s : stay ≡ count - 1 = x ∙ rw d in
-          rw d (exchanged packets count (a % 128) (goes d) packets′ sent (rw s at e))
-      moved packets′ (inr (d, e)) =
-          let s : stay ≡ count = x ∙ rw d in
-          rw (d, packets-count packets count) (rw s at e)
+      -- What `exchange` gives where packet k goes, and what `transmit` gives where all stay, of the packet as it is sent.
+      module _ (next : ℕ) (k : next ≡ countOn serial counted) (out : Packet) (own : kind ≡ 8 → out ≡ c .packet) (numbers : kind ≢ 8 → out ≡ numbered (c .packet) next) where
+        abbrev out-sent : List model.Packet
+        out-sent = sentBy (c .scope) (memory .links) (memory .n) (w .station) out
 
-      pub change-happens : {tells : ℕ} → tells ≡ (if eqb kind 8 then 0 else number) → (packets′ : List Packet) → ChangeMoved packets′ → stay + number ≤ airLimit
-          → Happens m (eventOf kind a b) (happened (changed (record { packets = packets′; count = stay + number })) (c .answer) tells 0)
-      change-happens {tells} z packets′ f few = rw (z, staying, y) (go which)
-        where
-          room : length stays + length sent ≤ airLimit
-          room = omega (arith, few, staying, y)
+        abbrev pub ChangeMoved : List Packet → Type 0
+        ChangeMoved packets′ = ((c .drops ≡ true) × (packetsOf packets′ (stay + length out-sent) ≡ removeAt (a % 128) (packetsOf packets (stay + 1)) ++ out-sent))
+            ⊎ ((c .drops ≡ false) × (packetsOf packets′ (stay + length out-sent) ≡ packetsOf packets stay ++ out-sent))
 
-          go : (kind ≡ 3) ⊎ (((kind ≡ 6) × (p .kind ≢ 3)) ⊎ ((kind ≡ 7) ⊎ (kind ≡ 8)))
-              → Happens m (eventOf kind a b) (happened (changed (record { packets = packets′; count = length stays + length sent })) (c .answer) (if eqb kind 8 then 0 else length sent) 0)
-          go (inl e) = solicit-done e packets′ room (moved packets′ f)
-          go (inr (inl e)) = react-done (e .0) (e .1) packets′ room (moved packets′ f)
-          go (inr (inr (inl e))) = lose-done e packets′ room (moved packets′ f)
-          go (inr (inr (inr e))) = double-done e packets′ room (moved packets′ f)
+        sent-is : out-sent ≡ sent
+        sent-is = go (eqb kind 8) refl
+          where
+            go : (t : Bool) → eqb kind 8 ≡ t → out-sent ≡ sentBy (c .scope) (memory .links) (memory .n) (w .station) (if t then c .packet else numbered (c .packet) (serial + 1))
+            go true e = rw (own (eqb-true kind 8 e))
+            go false e =
+                let all : counted ≡ number = z ∙ rw e in
+                rw (numbers (eqb-false kind 8 e), k, all) (sent-counted (memory .links) (memory .n) (w .station) (c .packet) (c .scope) serial number y)
+
+        moved : (packets′ : List Packet) → ChangeMoved packets′ → packetsOf packets′ (length stays + length sent) ≡ stays ++ sent
+        moved packets′ (inl (d, e)) =
+            let last : stay ≡ count - 1 = x ∙ rw d in
+            rw d (exchanged packets count (a % 128) (goes d) packets′ sent (rw (last, sent-is) at e))
+        moved packets′ (inr (d, e)) =
+            let same : stay ≡ count = x ∙ rw d in
+            rw (d, packets-count packets count) (rw (same, sent-is) at e)
+
+        pub change-happens : stop ≡ 0 → (packets′ : List Packet) → ChangeMoved packets′
+            → Happens m (eventOf kind a b) (happened (changed next (record { packets = packets′; count = stay + number })) (c .answer) counted 0)
+        change-happens h packets′ f =
+            rw (k, told-is, staying, y outgoing)
+            (happens-done (g .tested) (g .zero-is) (ending .left) stops h _ (c .answer) told (ending .made packets′ (moved packets′ f)))

@@ -2,26 +2,29 @@
 use Prim.Native.Nat.{ℕ, _+_, _-_, _%_, _≤_, _<_}
 use mathlib.Core.Path.{_≡_, refl, sym, ap, _∙_}
 use mathlib.Core.Logic.{_≢_}
-use mathlib.Core.Bool.{false, or-false}
+use mathlib.Core.Bool.{false, _&&_, or-false}
 use mathlib.Core.List.{List, _++_, map}
 use lib.ListN.{length, getD, set}
+use lib.Dec.{ltb, leb}
 use native.Mathlib.Omega.{arith}
-use Rattle.base.specs.Results.{refused, accepted}
 use Rattle.base.specs.Lists.{removeAt}
+use Rattle.base.specs.Numbers.{maxU64}
 use Rattle.base.proofs.Lists.{map-set}
 use Rattle.label.specs.declared.Label.{Label}
 use Rattle.model.specs.Memory as model
-use Rattle.model.specs.Memory.{place, names, setLabels, setRows, setRecords, setActives, setAir, airLimit}
-use Rattle.model.specs.Calls.{Deliver, Effect, effect, limited, send, sending, errors, takeOut, removes, emptied, bit}
-use Rattle.model.specs.Calls.{errorOutcome, onError, removePacket, receive, deliver, step}
+use Rattle.model.specs.Memory.{place, setLabels, setRows, setRecords, setActives, setAir, setSerials}
+use Rattle.model.specs.Calls.{Deliver, Effect, effect, limited, append, countOn, send, sending, errors, takeOut, removes, emptied, bit}
+use Rattle.model.specs.Calls.{withdrawn, errorOutcome, onError, removePacket, receive, deliver, step}
 use Rattle.model.specs.Events.{calls, eventOf}
-use Rattle.model.proofs.Refusals.{deliver-limited, sending-7, sending-accepted}
+use Rattle.model.proofs.Refusals.{deliver-limited}
+use Rattle.model.proofs.Serials.{used-one, sending-length}
 use Rattle.model.proofs.EventLaws.{call-6}
 use Rattle.model.proofs.Rows.{emptied-never, removes-never}
 use Rattle.rows.specs.View.{zeroRow, rowOf}
+use Rattle.rows.specs.Leaving.{leaving}
 use Rattle.network.specs.declared.Packet.{Packet}
 use Rattle.network.specs.declared.Memory.{Memory}
-use Rattle.network.specs.View.{zeroNumber, zeroRecord, zeroPacket, recordOf, bodyOf, packetOf, packetsOf, labelOf, view}
+use Rattle.network.specs.View.{zeroNumber, zeroRecord, zeroPacket, recordOf, bodyOf, packetOf, packetsOf, numbered, labelOf, view}
 use Rattle.network.proofs.ViewLaws.{body-error, row-at, record-at, number-at, label-at, labels-set}
 use Rattle.network.proofs.PacketLaws.{packets-at}
 use Rattle.network.proofs.Ranged.{Carried, Ranged}
@@ -31,12 +34,12 @@ use Rattle.station.specs.Reacting.{sentBy, Holds, holding, reacts}
 use Rattle.station.specs.Replying.{LastRequest, Ready}
 use Rattle.decisions.specs.declared.cutting.Cut.{Cut}
 use Rattle.decisions.specs.declared.cutting.Losses.{Losses}
+use Rattle.decisions.specs.Cutting.{leavesBy, ErrorCuts}
 use Rattle.decisions.specs.Refusing.{Passes}
-use Rattle.steps.specs.Happens.{happened, Happens}
 use Rattle.steps.proofs.PacketMoves.{removeAt-length}
 use Rattle.steps.proofs.RunLaws.{airing, shape-sized}
-use Rattle.steps.proofs.ArmLaws.{Tested, known, passes, happens-accepted, happens-7}
-use Rattle.steps.proofs.AirLaws.{packet-there}
+use Rattle.steps.proofs.ArmLaws.{Does, Tested, known, passes}
+use Rattle.steps.proofs.AirLaws.{serials-long, packet-there}
 use Rattle.steps.proofs.CutLaws.{Lost}
 
 module _ {memory : Memory} {packets : List Packet} {count kind a b r : ℕ} (h : Tested memory packets count kind a b r) (zero : r ≡ 0) (e : kind ≡ 6) where
@@ -69,41 +72,63 @@ module _ {memory : Memory} {packets : List Packet} {count kind a b r : ℕ} (h :
   abbrev pub flying : model.Network
   flying = setAir rest (view m)
 
-  pub delivered : step (Deliver a) (view m) ≡ limited (receive (p .receiver) (p .sender) (bodyOf p) flying)
+  pub delivered : step (Deliver a) (view m) ≡ limited (view m) (receive (p .receiver) (p .sender) (p .serial) (bodyOf p) flying)
   unfolding Passes deliver removePacket view packetOf
   delivered =
       deliver-limited (view m) (h .ranged) a (delivers .1)
-      ∙ ap limited (rw (packets-at packets count a model.zeroPacket (arrives .0), arrives .1))
+      ∙ ap (limited (view m)) (rw (packets-at packets count a model.zeroPacket (arrives .0), arrives .1))
 
-  pub deliver-7 : step (Deliver a) (view m) ≡ refused 7 → Happens m (eventOf kind a b) (happened m 7 0 0)
-  deliver-7 s = happens-7 h zero (Deliver a) (delivers .0) s
-
-  pub deliver-accepted : (next : Memory) (answer sent : ℕ) (f : Effect) → step (Deliver a) (view m) ≡ accepted f → effect answer sent (view next) ≡ f
-      → Happens m (eventOf kind a b) (happened next answer sent 0)
-  deliver-accepted next answer sent f s same = happens-accepted h zero (Deliver a) (delivers .0) next answer sent f s same
+  -- Its receiver sends these packets, in a network that has the memory's serial numbers and the other packets.
+  deliver-does : (answer : ℕ) (sent : List model.Packet) (net : model.Network) → net .serials ≡ memory .serials → net .air ≡ rest
+      → step (Deliver a) (view m) ≡ limited (view m) (sending answer (p .receiver) sent net)
+      → Does m (eventOf kind a b) (leb maxU64 (getD (memory .serials) (p .receiver) 0) && ltb 0 (length sent)) (count - 1 + length sent) (sending answer (p .receiver) sent net)
+  unfolding sending send append setAir setSerials view
+  deliver-does answer sent net serials air s = record {
+    call = Deliver a;
+    is = delivers .0;
+    steps = s;
+    used-is = used-one (view m) (sending answer (p .receiver) sent net) (serials-long h) (p .receiver) (length sent) (carried .receiver-below)
+        (ap (λ (l : List ℕ). set l (p .receiver) (countOn (getD l (p .receiver) 0) (length sent))) serials);
+    total-is = sending-length answer (p .receiver) sent net ∙ ap (λ (l : List model.Packet). length l + length sent) air ∙ ap (λ x. x + length sent) rest-length;
+  }
 
   -- An error, and what its receiver's rows lose.
-  module _ (is-error : p .kind ≡ 3) {cut : Cut} {losses : Losses} (cuts : (cut .first ≡ p .receiver) × (cut .second ≡ p .sender) × (cut .mask ≡ p .mask) × (cut .others ≡ 0))
+  module _ (is-error : p .kind ≡ 3) {cut : Cut} {losses : Losses} (cuts : ErrorCuts p cut)
       (lost : Lost cut (map rowOf (memory .rows)) (memory .n) losses) where
     abbrev all : List model.Row
     all = map rowOf (memory .rows)
 
-    pub gone-is : losses .emptied ≡ emptied (bit (p .mask)) (names (p .sender)) (p .receiver) (memory .n) all
-    gone-is = lost .emptied-is ∙ rw (cuts .0, cuts .1, cuts .2)
+    -- The entries that leave.
+    pub leaves-error : leavesBy cut (cut .second) ≡ withdrawn (p .sender) (p .serial)
+    unfolding leaving
+    leaves-error = rw (cuts .all-is, cuts .serial-is, cuts .second-is)
+
+    pub gone-is : losses .emptied ≡ emptied (bit (p .mask)) (withdrawn (p .sender) (p .serial)) (p .receiver) (memory .n) all
+    gone-is = lost .emptied-is ∙ rw (leaves-error, cuts .first-is, cuts .mask-is)
 
     pub others-none : losses .others ≡ 0
-    others-none = lost .others-are ∙ rw (cuts .0, cuts .1, cuts .3) (emptied-never (names (p .receiver)) (p .sender) all (memory .n))
+    others-none = lost .others-are ∙ rw (cuts .others-is) (emptied-never (leavesBy cut (cut .first)) (cut .second) all (memory .n))
 
-    removed-is : losses .removed ≡ removes (bit (p .mask)) (names (p .sender)) (p .receiver) (memory .n) all
-    removed-is = lost .removed-is ∙ rw (cuts .0, cuts .1, cuts .2, cuts .3, removes-never (names (p .receiver)) (p .sender) all (memory .n)) (or-false _)
+    removed-is : losses .removed ≡ removes (bit (p .mask)) (withdrawn (p .sender) (p .serial)) (p .receiver) (memory .n) all
+    removed-is = lost .removed-is ∙ rw (cuts .others-is, removes-never (leavesBy cut (cut .first)) (cut .second) all (memory .n), leaves-error, cuts .first-is, cuts .mask-is) (or-false _)
 
     -- The network without those entries.
     abbrev pub after-error : model.Network
-    after-error = setRows (takeOut (bit (p .mask)) (names (p .sender)) (p .receiver) (memory .n) all) flying
+    after-error = setRows (takeOut (bit (p .mask)) (withdrawn (p .sender) (p .serial)) (p .receiver) (memory .n) all) flying
 
-    pub error-does : step (Deliver a) (view m) ≡ limited (sending (errorOutcome (losses .removed) (losses .emptied)) (errors flying (p .receiver) (losses .emptied)) after-error)
+    abbrev pub told-on : List model.Packet
+    told-on = errors flying (p .receiver) (losses .emptied)
+
+    abbrev pub telling : Effect
+    telling = sending (errorOutcome (losses .removed) (losses .emptied)) (p .receiver) told-on after-error
+
+    pub error-steps : step (Deliver a) (view m) ≡ limited (view m) telling
     unfolding receive onError view setAir
-    error-does = delivered ∙ ap limited (rw (body-error p is-error, removed-is, gone-is))
+    error-steps = delivered ∙ ap (limited (view m)) (rw (body-error p is-error, removed-is, gone-is))
+
+    pub error-does : Does m (eventOf kind a b) (leb maxU64 (getD (memory .serials) (p .receiver) 0) && ltb 0 (length told-on)) (count - 1 + length told-on) telling
+    unfolding view setAir setRows
+    error-does = deliver-does (errorOutcome (losses .removed) (losses .emptied)) told-on after-error refl refl error-steps
 
   -- A request or a reply, and what its receiver holds.
   module _ (q : p .kind ≢ 3) (cell slot : ℕ) (l : Label) (cell-is : cell ≡ place (p .receiver) (p .destination)) (slot-is : slot ≡ place (p .receiver) (p .source))
@@ -155,24 +180,25 @@ module _ {memory : Memory} {packets : List Packet} {count kind a b r : ℕ} (h :
           active-is = refl;
         }
 
-    -- What the receiver does with it.
+    -- What the receiver does with it, and what it sends.
     module _ (f : Reaction) (reacted : (net : model.Network) → Holds net p held → LastRequest net p (getD (memory .numbers) (p .receiver) zeroNumber .0) (getD (memory .sought) (p .receiver) 0)
-        → net .links ≡ memory .links → reacts f p net ≡ receive (p .receiver) (p .sender) (bodyOf p) net) where
-      abbrev sent : List model.Packet
-      sent = sentBy (f .scope) (memory .links) (memory .n) (p .receiver) (f .packet)
+        → net .links ≡ memory .links → reacts f p net ≡ receive (p .receiver) (p .sender) (p .serial) (bodyOf p) net)
+        (sent : List model.Packet) (sends : sent ≡ sentBy (f .scope) (memory .links) (memory .n) (p .receiver) (numbered (f .packet) (getD (memory .serials) (p .receiver) 0 + 1))) where
+      abbrev pub reacting : Effect
+      reacting = sending (f .answer) (p .receiver) sent (holding p (f .holding) flying)
 
-      pub reaction-does : step (Deliver a) (view m) ≡ limited (reacts f p flying)
-      unfolding view setAir
-      reaction-does =
+      pub reaction-steps : step (Deliver a) (view m) ≡ limited (view m) reacting
+      unfolding reacts view setAir
+      reaction-steps =
           delivered
-          ∙ ap limited (sym (reacted flying holds (record { number-is = number-at (memory .numbers) (p .receiver); sought-is = refl }) refl))
+          ∙ ap (limited (view m)) (sym (reacted flying holds (record { number-is = number-at (memory .numbers) (p .receiver); sought-is = refl }) refl) ∙ rw sends)
 
-      pub reaction-7 : airLimit < count - 1 + length sent → Happens m (eventOf kind a b) (happened m 7 0 0)
-      unfolding reacts holding view setAir setLabels setRows setRecords setActives
-      reaction-7 full = deliver-7 (reaction-does ∙ sending-7 _ _ _ (rw rest-length full))
+      pub reaction-does : Does m (eventOf kind a b) (leb maxU64 (getD (memory .serials) (p .receiver) 0) && ltb 0 (length sent)) (count - 1 + length sent) reacting
+      unfolding holding view setAir setLabels setRows setRecords setActives
+      reaction-does = deliver-does (f .answer) sent (holding p (f .holding) flying) refl refl reaction-steps
 
-      pub reaction-happens : (packets′ : List Packet) → count - 1 + length sent ≤ airLimit → packetsOf packets′ (count - 1 + length sent) ≡ rest ++ sent
-          → Happens m (eventOf kind a b) (happened (record {
+      pub reaction-done : (packets′ : List Packet) → packetsOf packets′ (count - 1 + length sent) ≡ rest ++ sent
+          → effect (f .answer) (length sent) (view (record {
             s = set (memory .s) cell (f .holding .label .s .0);
             m = set (memory .m) cell (f .holding .label .m);
             d = set (memory .d) cell (f .holding .label .d);
@@ -184,15 +210,15 @@ module _ {memory : Memory} {packets : List Packet} {count kind a b r : ℕ} (h :
             active = set (memory .active) (p .receiver) (f .holding .active);
             links = memory .links;
             n = memory .n;
-          }) (f .answer) (length sent) 0)
-      unfolding reacts holding view setAir setLabels setRows setRecords setActives sending send
-      reaction-happens packets′ room g =
-          deliver-accepted _ (f .answer) (length sent) (reacts f p flying) (reaction-does ∙ sending-accepted (f .answer) sent (holding p (f .holding) flying) (rw rest-length room))
-          (rw (
+            serials = set (memory .serials) (p .receiver) (countOn (getD (memory .serials) (p .receiver) 0) (length sent));
+          })) ≡ reacting
+      unfolding holding view setAir setLabels setRows setRecords setActives sending send append setSerials
+      reaction-done packets′ g =
+          rw (
             labels-set (memory .s) (memory .m) (memory .d) (h .shape .labels) cell _ _ _ (omega (arith, cell-is, inside)),
             map-set rowOf (memory .rows),
             map-set recordOf (memory .records),
             g,
             cell-is,
             slot-is,
-          ))
+          )

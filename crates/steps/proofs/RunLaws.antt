@@ -50,6 +50,7 @@ airing m packets count = record {
   active = m .active;
   links = m .links;
   n = m .n;
+  serials = m .serials;
 }
 
 -- The tables have their sizes.
@@ -59,6 +60,7 @@ pub record Shape (m : Memory) (packets : List Packet) : Type 0 where
   pub records-length : length (m .records) ≡ 256
   pub sought-length : length (m .sought) ≡ 16
   pub active-length : length (m .active) ≡ 16
+  pub serials-length : length (m .serials) ≡ 16
   pub packets-length : length packets ≡ airLimit
 
 pub lengths-shape : {m : Memory} → Lengths m → Shape m (m .air .packets)
@@ -68,6 +70,7 @@ lengths-shape long = record {
   records-length = long .records-length;
   sought-length = long .sought-length;
   active-length = long .active-length;
+  serials-length = long .serials-length;
   packets-length = long .air-length;
 }
 

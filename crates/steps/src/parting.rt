@@ -67,7 +67,7 @@ pub fn parted(
         ≡ (dropBetween a b (packetsOf packets count) ++ sentBy scope links n a p) ++ sentBy other links n b q ⌝ }
 {
     let kept = without_between(packets, count, a, b);
-    let sent = copies(scope, links, n, a, p);
+    let sent = copies(scope, links, n, a);
     let told = transmit(kept, left, scope, links, n, a, p);
     transmit(told, left + sent, other, links, n, b, q)
 }

@@ -18,7 +18,9 @@ use crate::source::line_place;
 use crate::source::next_event;
 use decisions::changing::change_of;
 use decisions::changing::class_of;
+use decisions::changing::count_on;
 use decisions::changing::expired;
+use decisions::changing::outgoing;
 use decisions::changing::spot_of;
 use decisions::changing::told;
 use decisions::cutting::Losses;
@@ -27,8 +29,8 @@ use decisions::cutting::cut_of;
 use decisions::cutting::cut_row;
 use decisions::cutting::turns_of;
 use decisions::cutting::with_rows;
-use decisions::refusing::full;
 use decisions::refusing::refusal;
+use decisions::refusing::sending_refusal;
 use decisions::tracing::Walk;
 use decisions::tracing::advance;
 use label::label_of;
@@ -131,14 +133,18 @@ pub fn run(
                 u += 1;
             }
             let left = left_of(kind, packets, count, k, first, second);
-            let q = error(losses.emptied);
-            let z = error(losses.others);
             let scope = error_scope(losses.emptied);
             let other = error_scope(losses.others);
-            let sent = copies(scope, links, n, first, q);
-            let more = copies(other, links, n, second, z);
-            if full(AIR_LIMIT, left, sent + more) {
-                lines[at] = line(7, 0, count, 0);
+            let sent = copies(scope, links, n, first);
+            let more = copies(other, links, n, second);
+            let total = left + sent + more;
+            let here = first as usize;
+            let there = second as usize;
+            let mine = memory.serials[here];
+            let theirs = memory.serials[there];
+            let stop = sending_refusal(AIR_LIMIT, total, mine, sent, theirs, more);
+            if stop != 0 {
+                lines[at] = line(stop, 0, count, 0);
             } else {
                 let turns = turns_of(n, losses.removed);
                 let mut v = 0;
@@ -147,14 +153,19 @@ pub fn run(
                     let slot = place(second, v);
                     let row = memory.rows[cell];
                     let other = memory.rows[slot];
-                    let mine = cut_row(row, second, cut.mask, v);
-                    let theirs = cut_row(other, first, cut.others, v);
-                    memory.rows[cell] = mine;
-                    memory.rows[slot] = theirs;
+                    let rest = cut_row(row, cut, second, cut.mask, v);
+                    let others = cut_row(other, cut, first, cut.others, v);
+                    memory.rows[cell] = rest;
+                    memory.rows[slot] = others;
                     v += 1;
                 }
                 memory.links = links;
-                let total = left + sent + more;
+                let first_serial = count_on(mine, sent);
+                let second_serial = count_on(theirs, more);
+                memory.serials[here] = first_serial;
+                memory.serials[there] = second_serial;
+                let q = error(losses.emptied, first_serial);
+                let z = error(losses.others, second_serial);
                 let answer = cut_answer(kind, losses.removed, losses.emptied);
                 lines[at] = line(answer, sent + more, total, 0);
                 if kind == 2 {
@@ -186,6 +197,7 @@ pub fn run(
             let kept = memory.records[slot];
             let sought = memory.sought[own];
             let links = memory.links;
+            let serial = memory.serials[own];
             let held = Holding {
                 label: label_of(s, m, d),
                 row: row,
@@ -193,11 +205,13 @@ pub fn run(
                 active: active,
             };
             let c = change_of(kind, p, held, last, sought, links, station, t);
-            let packet = c.packet;
             let left = stay(count, c.drops);
-            let sent = copies(c.scope, links, n, station, packet);
-            if full(AIR_LIMIT, left, sent) {
-                lines[at] = line(7, 0, count, 0);
+            let sent = copies(c.scope, links, n, station);
+            let counted = told(kind, sent);
+            let total = left + sent;
+            let stop = sending_refusal(AIR_LIMIT, total, serial, counted, 0, 0);
+            if stop != 0 {
+                lines[at] = line(stop, 0, count, 0);
             } else {
                 let holding = c.holding;
                 let label = holding.label;
@@ -212,8 +226,11 @@ pub fn run(
                 memory.numbers[own] = asked;
                 memory.sought[own] = c.sought;
                 memory.active[own] = holding.active;
-                count = left + sent;
-                lines[at] = line(c.answer, told(kind, sent), count, 0);
+                let next = count_on(serial, counted);
+                memory.serials[own] = next;
+                let packet = outgoing(kind, c.packet, next);
+                count = total;
+                lines[at] = line(c.answer, counted, count, 0);
                 if c.drops {
                     packets = exchange(packets, left, k, c.scope, links, n, station, packet);
                 } else {

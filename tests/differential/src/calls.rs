@@ -133,7 +133,7 @@ fn is_refused(result: u64) -> bool {
 }
 
 /// Longer than anything that a call shows.
-pub const OUT: usize = 100;
+pub const OUT: usize = 130;
 
 /// The bytes that a preview shows.
 pub const PREVIEW: usize = size_of::<Preview>();
@@ -173,6 +173,11 @@ impl Desk {
 
     pub fn network(&self) -> &Network {
         Network::of(&self.reference).unwrap()
+    }
+
+    /// The network before the last call.
+    pub fn network_before(&self) -> &Network {
+        Network::of(&self.before).unwrap()
     }
 
     /// Keeps what stands in memory before a call, and clears the output slices.
@@ -304,12 +309,13 @@ fn turn_limit(n: usize, p: usize) -> usize {
     p + p * n * (n - 1) + p * n + (n - 1) * (n * (n - 1) + p + p * n)
 }
 
-/// Packet 0 by the library's Deliver, and by its Lose where that gives 7, until it gives another refusal; but for no more than so many packets.
+/// Packet 0 by the library's Deliver, and by its Lose where that gives 7 or 13, until it gives another refusal; but for no more than so many
+/// packets.
 fn drain_singly(memory: &mut [u8], most: usize) -> Drained {
     let mut drained = Drained::default();
     for _ in 0..most {
         let result = library::deliver(memory, 0);
-        if answer_of(result) == 7 {
+        if matches!(answer_of(result), 7 | 13) {
             library::lose(memory, 0);
             drained.losses += 1;
         } else if is_refused(result) {

@@ -65,7 +65,7 @@ fn packet_of<'a>(random: &mut Random, network: &'a mut Network, kind: u8) -> &'a
 
 /// A row of a station for another, of one successor and in range.
 fn row_of(network: &mut Network, i: usize, t: usize) -> &mut Row {
-    let successor = Successor { station: ((i + 1) % network.stations()) as u8, label: UNASSIGNED };
+    let successor = Successor { station: ((i + 1) % network.stations()) as u8, label: UNASSIGNED, serial: 0 };
     let row = &mut network.rows[i][t];
     *row = NO_ROW;
     row.put(successor);
@@ -125,7 +125,7 @@ fn break_clause(random: &mut Random, network: &mut Network, clause: usize) {
         33 => packet_of(random, network, ERROR).source = 1,
         34 => packet_of(random, network, ERROR).destination = 1,
         35 => packet_of(random, network, ERROR).reset = 1,
-        36 => network.version = random.of(&[0, 1, n as u8, 16, 18, 19, 145, 255]),
+        36 => network.version = random.of(&[0, 1, n as u8, 16, 17, 19, 146, 255]),
         // A mask with a bit for no station; with 16 stations there is none.
         _ if n < MAX_STATIONS => packet_of(random, network, ERROR).mask = 1 << random.between(n, MAX_STATIONS - 1),
         _ => network.n = 0,

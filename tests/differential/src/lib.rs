@@ -9,5 +9,6 @@ pub mod random;
 pub mod rows;
 pub mod script_bytes;
 pub mod scripts;
+pub mod serials;
 pub mod tally;
 pub mod versions;

@@ -10,7 +10,7 @@
 use differential::random::Random;
 use differential::scripts::{self, Script};
 use differential::tally::{Tally, ANSWERS};
-use differential::{damage, labels, networks, program, rows, script_bytes, versions};
+use differential::{damage, labels, networks, program, rows, script_bytes, serials, versions};
 use std::panic::{catch_unwind, AssertUnwindSafe};
 use std::process::ExitCode;
 use std::sync::atomic::{AtomicBool, AtomicU64, AtomicUsize, Ordering::Relaxed};
@@ -29,6 +29,8 @@ struct Family {
     previews: &'static [u32],
     /// Whether they have to deliver and to lose packets by draining.
     drains: bool,
+    /// What they have to meet besides, by its name.
+    named: &'static [&'static str],
 }
 
 /// The scripts that the examples are.
@@ -54,6 +56,7 @@ fn families() -> Vec<Family> {
             meets: &[0, 1, 112, 113, 114],
             previews: &[],
             drains: false,
+            named: &[],
         },
         Family {
             name: "rows",
@@ -62,6 +65,7 @@ fn families() -> Vec<Family> {
             meets: &[0, 1, 2],
             previews: &[],
             drains: false,
+            named: &[],
         },
         Family {
             name: "script-bytes",
@@ -76,16 +80,26 @@ fn families() -> Vec<Family> {
             meets: &[0, 1, 9, 10, 11, 12],
             previews: &[],
             drains: false,
+            named: &[],
         },
         Family {
             name: "networks",
             cases: 20_000,
             check: Box::new(networks::check_network),
-            meets: &[0, 1, 2, 3, 4, 5, 6, 7, 8, 12, 101, 102, 103, 104, 111, 112, 113, 114, 115, 121, 122, 123, 131, 132, 133],
-            previews: &[6, 7, 12, 101, 102, 103, 104, 111, 112, 113, 114, 115, 121, 122, 123],
+            meets: &[0, 1, 2, 3, 4, 5, 6, 7, 8, 12, 13, 101, 102, 103, 104, 111, 112, 113, 114, 115, 121, 122, 123, 131, 132, 133],
+            previews: &[6, 7, 12, 13, 101, 102, 103, 104, 111, 112, 113, 114, 115, 121, 122, 123],
             drains: false,
+            named: &serials::OF_CALLS,
         },
-        Family { name: "drains", cases: 8_000, check: Box::new(networks::check_drain), meets: &[0, 4, 7, 8], previews: &[], drains: true },
+        Family {
+            name: "drains",
+            cases: 8_000,
+            check: Box::new(networks::check_drain),
+            meets: &[0, 4, 7, 8, 13],
+            previews: &[],
+            drains: true,
+            named: &[serials::DRAIN],
+        },
         Family {
             name: "memory-lengths",
             cases: 300,
@@ -93,6 +107,7 @@ fn families() -> Vec<Family> {
             meets: &[0, 1],
             previews: &[1, 6],
             drains: false,
+            named: &[],
         },
         Family {
             name: "versions",
@@ -101,6 +116,7 @@ fn families() -> Vec<Family> {
             meets: &[0, 1],
             previews: &[1],
             drains: false,
+            named: &[],
         },
         Family {
             name: "broken-clauses",
@@ -109,6 +125,7 @@ fn families() -> Vec<Family> {
             meets: &[1],
             previews: &[1],
             drains: false,
+            named: &[],
         },
         Family {
             name: "damaged-memory",
@@ -117,6 +134,7 @@ fn families() -> Vec<Family> {
             meets: &[0, 1, 2, 6],
             previews: &[1, 6, 101, 102, 103, 111, 112, 113, 115, 121, 122, 123],
             drains: false,
+            named: &[],
         },
         Family {
             name: "damaged-scripts",
@@ -125,6 +143,7 @@ fn families() -> Vec<Family> {
             meets: &[0, 1, 9, 10, 11],
             previews: &[],
             drains: false,
+            named: &[],
         },
         Family {
             name: "scripts",
@@ -133,6 +152,7 @@ fn families() -> Vec<Family> {
             meets: &[0, 2, 3, 4, 5, 6, 7, 101, 102, 103, 104, 111, 112, 114, 115, 121, 122, 123, 131, 132],
             previews: &[6, 7, 12, 101, 102, 103, 104, 111, 112, 114, 115, 121, 122, 123],
             drains: true,
+            named: &[serials::LOWER, serials::HIGHER],
         },
     ]
 }
@@ -241,6 +261,13 @@ fn check_all() -> ExitCode {
         for answer in missed(family.previews, &tally.previewed) {
             println!("differential: {} never met answer {answer} by a preview", family.name);
             code = ExitCode::FAILURE;
+        }
+        for name in family.named {
+            let times = tally.named.get(name).copied().unwrap_or(0);
+            println!("differential: {} met {times} times: {name}", family.name);
+            if times == 0 {
+                code = ExitCode::FAILURE;
+            }
         }
     }
     code

@@ -2,17 +2,20 @@
 
 use crate::calls::{answer_of, answer_to, Call, Desk, OUT, PREVIEW};
 use crate::random::Random;
+use crate::serials;
 use crate::tally::Tally;
 use reference::label::{Label, UNASSIGNED};
 use reference::network::{
     Bytes, Network, Packet, Record, Row, Station, Successor, ERROR, LENGTH, MAX_PACKETS, MAX_STATIONS, MAX_SUCCESSORS, NO_PACKET, NO_ROW,
     REPLY, REQUEST, VERSION,
 };
+use std::mem::size_of;
 
-/// The numbers that a network's labels are made of: few, so that equal and neighbouring ones meet.
+/// The numbers that a network's labels are made of, and those of its sendings: few, so that equal and neighbouring ones meet.
 struct Palette {
     s: [u64; 3],
     d: [u32; 4],
+    serials: [u64; 4],
 }
 
 impl Palette {
@@ -27,7 +30,20 @@ impl Palette {
             2 => [2, u32::MAX / 2, u32::MAX / 2 + 1, u32::MAX / 2 + 2],
             _ => [1, 2, u32::MAX - 1, u32::MAX],
         };
-        Palette { s, d }
+        let serials = match random.below(5) {
+            0 | 1 => [0, 1, 2, 3],
+            2 => [u64::MAX - 3, u64::MAX - 2, u64::MAX - 1, u64::MAX],
+            3 => [1, 1 << 32, (1 << 32) + 1, 1 << 63],
+            _ => {
+                let any = random.number() >> 1;
+                [random.number() % 2, any, any + 1, u64::MAX]
+            }
+        };
+        Palette { s, d, serials }
+    }
+
+    fn serial(&self, random: &mut Random) -> u64 {
+        random.of(&self.serials)
     }
 
     /// A label of a station for another: any in range.
@@ -61,8 +77,9 @@ fn some_row(random: &mut Random, palette: &Palette, n: usize, holder: usize) -> 
     for _ in 0..random.between(0, 2 * MAX_SUCCESSORS) {
         let station = random.below(n);
         let label = if low { palette.own_label(random) } else { palette.label(random) };
+        let serial = palette.serial(random);
         if station != holder {
-            row.put(Successor { station: station as u8, label });
+            row.put(Successor { station: station as u8, label, serial });
         }
     }
     row
@@ -73,7 +90,7 @@ fn some_packet(random: &mut Random, palette: &Palette, network: &Network) -> Pac
     let n = network.stations();
     let receiver = random.below(n);
     let sender = (receiver + random.between(1, n - 1)) % n;
-    let ends = Packet { sender: sender as u8, receiver: receiver as u8, ..NO_PACKET };
+    let ends = Packet { sender: sender as u8, receiver: receiver as u8, serial: palette.serial(random), ..NO_PACKET };
     let kind = random.of(&[REQUEST, REPLY, REPLY, ERROR]);
     if kind == ERROR {
         return Packet { kind, mask: (random.number() % (1 << n)) as u16, ..ends };
@@ -111,7 +128,12 @@ pub fn some_network(random: &mut Random) -> Box<Network> {
     let density = random.of(&[0, 20, 50, 90, 100]);
     let rows = random.of(&[30, 70, 100]);
     for i in 0..n {
-        network.kept[i] = Station { number: some_number(random), sought: random.below(n) as u8, active: u8::from(random.percent(40)) };
+        network.kept[i] = Station {
+            number: some_number(random),
+            sought: random.below(n) as u8,
+            active: u8::from(random.percent(40)),
+            serial: palette.serial(random),
+        };
         for t in 0..n {
             if i < t {
                 network.links[i][t] = u8::from(random.percent(density));
@@ -205,14 +227,24 @@ pub fn some_call(random: &mut Random, n: usize, in_air: usize) -> Call {
 
 /// Around what a preview shows, or what one of the other calls does.
 fn some_out_length(random: &mut Random, call: Call) -> usize {
+    const SIZES: [usize; 5] = [size_of::<Station>(), size_of::<Label>(), size_of::<Record>(), size_of::<Packet>(), size_of::<Row>()];
     match call {
-        Call::Preview(_) => random.of(&[0, 69, PREVIEW - 1, PREVIEW, PREVIEW, PREVIEW + 1, PREVIEW + 1, OUT]),
-        _ => random.of(&[0, 5, 6, 15, 16, 22, 23, 27, 28, 68, 69, OUT]),
+        Call::Preview(_) => random.of(&[0, size_of::<Row>(), PREVIEW - 1, PREVIEW, PREVIEW, PREVIEW + 1, PREVIEW + 1, OUT]),
+        _ => match random.below(6) {
+            0 => random.of(&[0, OUT]),
+            _ => random.of(&SIZES) - random.below(2),
+        },
     }
 }
 
-/// Draining a random network, whose air is mostly full, and again with what it left and some packets more. One of eight is repeated by single
-/// calls.
+/// Draining, and how many packets it loses by 13. One of eight is repeated by single calls.
+fn drain(tally: &mut Tally, desk: &mut Desk, random: &mut Random) -> Result<(), String> {
+    tally.count_named(serials::DRAIN, serials::lost_by_draining(desk.network()));
+    tally.count_drain(desk.drain(random.percent(12))?);
+    Ok(())
+}
+
+/// Draining a random network, whose air is mostly full, and again with what it left and some packets more.
 pub fn check_drain(case: usize) -> Result<Tally, String> {
     let mut random = Random::new(case as u64);
     let mut tally = Tally::default();
@@ -223,12 +255,12 @@ pub fn check_drain(case: usize) -> Result<Tally, String> {
     let mut bytes = network.bytes().to_vec();
     bytes.extend([0xc3; 5]);
     let mut desk = Desk::new(&bytes);
-    tally.count_drain(desk.drain(random.percent(12))?);
+    drain(&mut tally, &mut desk, &mut random)?;
     for a in 0..desk.network().stations() {
         let t = (a + 1) % desk.network().stations();
         tally.count_call(Call::Solicit(a, t), answer_of(desk.call(Call::Solicit(a, t), 0)?));
     }
-    tally.count_drain(desk.drain(random.percent(12))?);
+    drain(&mut tally, &mut desk, &mut random)?;
     Ok(tally)
 }
 
@@ -252,6 +284,9 @@ pub fn check_network(case: usize) -> Result<Tally, String> {
         let result = result.map_err(|what| format!("call {step}: {what}"))?;
         if answer_to(call, result) == 1 && !matches!(call, Call::Open(..)) {
             return Err(format!("call {step}: {call:?}: a network in range is taken for one out of range"));
+        }
+        for name in serials::met_by(desk.network_before(), call, answer_to(call, result)) {
+            tally.count_named(name, 1);
         }
         tally.count_call(call, answer_to(call, result));
     }

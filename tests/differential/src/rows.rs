@@ -57,7 +57,8 @@ fn check(row: &[u8], tally: &mut Tally) -> Result<(), String> {
 
 /// The row with these stations, all four places filled, of which so many count.
 fn row_of(count: u8, stations: [u8; MAX_SUCCESSORS]) -> Row {
-    Row { count, entries: stations.map(|station| Successor { station, label: Label::new(u64::from(station), u32::MAX, 7) }) }
+    let label = |station: u8| Label::new(u64::from(station), u32::MAX, 7);
+    Row { count, entries: stations.map(|station| Successor { station, label: label(station), serial: !u64::from(station) }) }
 }
 
 /// All rows of up to four entries, with all that may stand past their count.

@@ -1,10 +1,11 @@
 //! Scripts: how they are made, and the test of one.
 
-use crate::calls::{answer_of, Call, Desk, OUT, PREVIEW};
+use crate::calls::{answer_of, call_of, Call, Desk, OUT, PREVIEW};
 use crate::program::rehearse;
 use crate::random::Random;
+use crate::serials;
 use crate::tally::Tally;
-use reference::network::{Network, LENGTH, MAX_PACKETS, REQUEST};
+use reference::network::{Network, ERROR, LENGTH, MAX_PACKETS, REQUEST};
 use reference::script::{self, DELIVER, DOWN, DUPLICATE, EXPIRE, GIVE_UP, LOSE, MAX_EVENTS, SOLICIT, TRACE, UP};
 
 /// A script before it is bytes.
@@ -50,14 +51,19 @@ pub struct Style {
     wild: usize,
     /// How many of a hundred packets are taken from the front of the air.
     front: usize,
+    /// Whether errors are late: in every other stretch of events they stay in the air.
+    late_errors: bool,
 }
 
+/// How many events a stretch has.
+const STRETCH: usize = 40;
+
 pub const STYLES: [Style; 5] = [
-    Style { name: "packets in order", weights: [1, 1, 6, 2, 1, 60, 1, 1, 5], wild: 0, front: 95 },
-    Style { name: "packets late, twice or never", weights: [1, 1, 5, 3, 2, 35, 8, 12, 4], wild: 2, front: 30 },
-    Style { name: "links that come and go", weights: [9, 8, 6, 3, 3, 45, 2, 2, 5], wild: 2, front: 60 },
-    Style { name: "an air that is nearly full", weights: [2, 1, 14, 12, 2, 22, 1, 30, 2], wild: 1, front: 50 },
-    Style { name: "operands of any value", weights: [4, 2, 3, 2, 2, 8, 2, 2, 3], wild: 50, front: 50 },
+    Style { name: "packets in order", weights: [1, 1, 6, 2, 1, 60, 1, 1, 5], wild: 0, front: 95, late_errors: false },
+    Style { name: "packets late, twice or never", weights: [1, 1, 5, 3, 2, 35, 8, 12, 4], wild: 2, front: 30, late_errors: true },
+    Style { name: "links that come and go", weights: [9, 8, 6, 3, 3, 45, 2, 2, 5], wild: 2, front: 60, late_errors: true },
+    Style { name: "an air that is nearly full", weights: [2, 1, 14, 12, 2, 22, 1, 30, 2], wild: 1, front: 50, late_errors: false },
+    Style { name: "operands of any value", weights: [4, 2, 3, 2, 2, 8, 2, 2, 3], wild: 50, front: 50, late_errors: false },
 ];
 
 /// Starts at the ends of 64 bits and between.
@@ -131,14 +137,38 @@ impl Growing {
         }
     }
 
-    /// A packet in the air: the first, or any, or any that is no request, since these are few.
+    /// A packet in the air: the first, the first that is no error, or any, or any that is no request, since these are few.
     fn some_packet(&self, random: &mut Random, style: &Style) -> Option<usize> {
         let air = self.network.air();
+        if self.holds_errors(style) {
+            return air.iter().position(|packet| packet.kind != ERROR);
+        }
         if random.percent(style.front) {
             return (!air.is_empty()).then_some(0);
         }
         let any = random.percent(60) || air.iter().all(|packet| packet.kind == REQUEST);
         random.among((0..air.len()).filter(|&k| any || air[k].kind != REQUEST))
+    }
+
+    fn holds_errors(&self, style: &Style) -> bool {
+        style.late_errors && self.script.kinds.len() / STRETCH % 2 == 1
+    }
+
+    /// A route's first link goes down, so that its holder sends an error, and comes up again; another that has the holder in its row seeks
+    /// the destination anew. Nothing where no route is so.
+    fn push_parting(&mut self, random: &mut Random) {
+        let n = self.script.n;
+        let network = &self.network;
+        let routes = (0..n * n).map(|place| (place / n, place % n)).filter(|&(i, t)| network.rows[i][t].count == 1);
+        let seekers = routes.flat_map(|(i, t)| (0..n).map(move |j| (i, t, j))).filter(|&(i, t, j)| {
+            let passive = network.kept[j].active == 0;
+            passive && network.link(i, j) && network.rows[j][t].position(i).is_some()
+        });
+        let Some((i, t, j)) = random.among(seekers) else { return };
+        let next = network.rows[i][t].entries[0].station;
+        self.push(DOWN, i as u8, next);
+        self.push(UP, i as u8, next);
+        self.push(SOLICIT, j as u8, t as u8);
     }
 
     /// Any kind with any operands, most of them near the numbers of stations and packets.
@@ -157,6 +187,8 @@ impl Growing {
         while self.script.kinds.len() < events {
             if random.percent(style.wild) {
                 self.push_wild(random);
+            } else if self.holds_errors(style) && self.script.kinds.len() + 3 <= events && random.percent(20) {
+                self.push_parting(random);
             } else {
                 self.push_fitting(random, style);
             }
@@ -260,7 +292,21 @@ fn check_some_preview(tally: &mut Tally, desk: &mut Desk, random: &mut Random) -
     let out_length = if random.percent(5) { random.below(PREVIEW) } else { random.of(&[PREVIEW, PREVIEW + 1, OUT]) };
     let result = if random.percent(20) { desk.preview(k, out_length)? } else { desk.call(Call::Preview(k), out_length)? };
     tally.count_preview(answer_of(result));
+    if never(answer_of(result)) {
+        return Err(format!("Preview({k}) is answered {}", answer_of(result)));
+    }
     Ok(())
+}
+
+/// What no event of a script is answered. Numbers of sendings begin at 1, so 13 is for memory that no script makes.
+fn never(answer: u32) -> bool {
+    matches!(answer, 1 | 13 | 133)
+}
+
+/// What holds of the memory after any events from Open.
+fn check_made(network: &Network) -> Result<(), String> {
+    check_routes(network)?;
+    serials::check(network)
 }
 
 /// A script on both builds, event by event and as a whole by the rehearsal programs; after its last event the air is drained.
@@ -275,19 +321,25 @@ pub fn check(script: &Script, random: &mut Random) -> Result<Tally, String> {
         let fails = |what| failure(script, index + 1, what);
         let answer = answer_of(desk.event(index, kind, a, b).map_err(fails)?);
         tally.count(answer);
-        if answer == 1 || answer == 133 {
+        if never(answer) {
             return Err(fails(format!("event {index} of a script is answered {answer}")));
+        }
+        for name in serials::met_by(desk.network_before(), call_of(kind, a, b), answer) {
+            if name == serials::EQUAL {
+                return Err(fails(format!("event {index} delivers {name}, which is another sending")));
+            }
+            tally.count_named(name, 1);
         }
         check_some_preview(&mut tally, &mut desk, random).map_err(fails)?;
         if random.percent(2) {
             desk.call(question(random), random.below(OUT)).map_err(fails)?;
-            check_routes(desk.network()).map_err(fails)?;
+            check_made(desk.network()).map_err(fails)?;
         }
     }
     let fails = |what| failure(script, script.kinds.len(), what);
-    check_routes(desk.network()).map_err(fails)?;
+    check_made(desk.network()).map_err(fails)?;
     tally.count_drain(desk.drain(random.percent(20)).map_err(fails)?);
-    check_routes(desk.network()).map_err(fails)?;
+    check_made(desk.network()).map_err(fails)?;
     check_program(&script.bytes())?;
     Ok(tally)
 }

@@ -1,9 +1,10 @@
-//! How often each answer was met.
+//! How often each answer was met, and each thing that has a name.
 
 use crate::calls::Call;
 use reference::calls::Drained;
+use std::collections::BTreeMap;
 
-/// Answers are 0, 1 to 12 and 101 to 133.
+/// Answers are 0, 1 to 13 and 101 to 133.
 pub const ANSWERS: usize = 134;
 
 pub struct Tally {
@@ -14,11 +15,13 @@ pub struct Tally {
     /// By draining, all together.
     pub deliveries: u64,
     pub losses: u64,
+    /// What `serials` has names for.
+    pub named: BTreeMap<&'static str, u64>,
 }
 
 impl Default for Tally {
     fn default() -> Tally {
-        Tally { calls: 0, met: [0; ANSWERS], previewed: [0; ANSWERS], deliveries: 0, losses: 0 }
+        Tally { calls: 0, met: [0; ANSWERS], previewed: [0; ANSWERS], deliveries: 0, losses: 0, named: BTreeMap::new() }
     }
 }
 
@@ -49,6 +52,10 @@ impl Tally {
         }
     }
 
+    pub fn count_named(&mut self, name: &'static str, times: u64) {
+        *self.named.entry(name).or_default() += times;
+    }
+
     pub fn add(&mut self, other: &Tally) {
         self.calls += other.calls;
         self.deliveries += other.deliveries;
@@ -56,5 +63,6 @@ impl Tally {
         for (all, more) in [(&mut self.met, other.met), (&mut self.previewed, other.previewed)] {
             all.iter_mut().zip(more).for_each(|(all, more)| *all += more);
         }
+        other.named.iter().for_each(|(name, times)| self.count_named(name, *times));
     }
 }

@@ -1,26 +1,44 @@
-//! Memory of other versions: another first byte, and the layout that had no version.
+//! Memory of other versions: another first byte, the layout of version 17, and the layout that had no version.
 
 use crate::calls::{answer_to, calls_but_open, Call, Desk, OUT};
 use crate::damage::whole_network;
 use crate::random::Random;
 use crate::scripts::Script;
 use crate::tally::Tally;
-use reference::network::{Bytes, Network, LENGTH, VERSION};
+use reference::network::{Bytes, Network, LENGTH, MAX_SUCCESSORS, VERSION};
 
-/// The length of the layout that had no version.
-const LENGTH_BEFORE: usize = 31_586;
+/// What stood behind the stations in the layouts before: the parts that stand there now, with no number in a row's entry and in a packet.
+fn rest_before(network: &Network) -> Vec<u8> {
+    let mut bytes = network.links.as_flattened().to_vec();
+    network.labels.as_flattened().iter().for_each(|label| bytes.extend(label.bytes()));
+    for row in network.rows.as_flattened() {
+        bytes.push(row.count);
+        (0..MAX_SUCCESSORS).for_each(|entry| bytes.extend(&row.bytes()[1 + 25 * entry..][..17]));
+    }
+    network.records.as_flattened().iter().for_each(|record| bytes.extend(record.bytes()));
+    bytes.push(network.in_air);
+    network.packets.iter().for_each(|packet| bytes.extend(&packet.bytes()[..28]));
+    bytes
+}
+
+/// A network in the layout of version 17: the version, n, and what each station kept of its own requests.
+fn bytes_of_17(network: &Network) -> Vec<u8> {
+    let mut bytes = vec![17, network.n];
+    network.kept.iter().for_each(|station| bytes.extend(&station.bytes()[..6]));
+    bytes.extend(rest_before(network));
+    assert_eq!(bytes.len(), 31_587);
+    bytes
+}
 
 /// A network in the layout that had no version: n in the first byte, then the last request numbers, the destinations last sought and the
-/// flags "active" in a table each. The rest is as it is now.
-fn bytes_before(network: &Network) -> Vec<u8> {
-    let mut bytes = vec![0; LENGTH_BEFORE];
-    bytes[0] = network.n;
-    for (i, station) in network.kept.iter().enumerate() {
-        bytes[1 + 4 * i..][..4].copy_from_slice(&station.number.to_le_bytes());
-        bytes[65 + i] = station.sought;
-        bytes[81 + i] = station.active;
-    }
-    bytes[97..].copy_from_slice(&network.bytes()[98..]);
+/// flags "active" in a table each.
+fn bytes_without_version(network: &Network) -> Vec<u8> {
+    let mut bytes = vec![network.n];
+    network.kept.iter().for_each(|station| bytes.extend({ station.number }.to_le_bytes()));
+    bytes.extend(network.kept.map(|station| station.sought));
+    bytes.extend(network.kept.map(|station| station.active));
+    bytes.extend(rest_before(network));
+    assert_eq!(bytes.len(), 31_586);
     bytes
 }
 
@@ -88,7 +106,7 @@ fn check_opened(tally: &mut Tally, bytes: &[u8], n: usize) -> Result<(), String>
     Ok(())
 }
 
-/// A network with its version, with others, and in the layout that had none.
+/// A network with its version, with others, and in the layouts before.
 pub fn check(case: usize, examples: &[Script]) -> Result<Tally, String> {
     let mut random = Random::new(case as u64);
     let mut tally = Tally::default();
@@ -96,7 +114,7 @@ pub fn check(case: usize, examples: &[Script]) -> Result<Tally, String> {
     let operands = Operands::of(&mut random, &network);
     check_taken(&mut tally, &network, operands)?;
     // 256 cases in a row have every first byte that there is. Where n stood once it was 2 to 16.
-    for version in [0, 2, 16, 18, 255, network.n, case as u8, random.byte(), random.byte()] {
+    for version in [0, 2, 16, 17, 19, 255, network.n, case as u8, random.byte(), random.byte()] {
         if version == VERSION {
             continue;
         }
@@ -106,12 +124,14 @@ pub fn check(case: usize, examples: &[Script]) -> Result<Tally, String> {
             .and_then(|()| check_opened(&mut tally, &bytes, network.stations()))
             .map_err(|what| format!("where the first byte is {version}: {what}"))?;
     }
-    for length in [LENGTH_BEFORE, LENGTH, LENGTH + 5] {
-        let mut bytes = bytes_before(&network);
-        bytes.resize(length, random.byte());
-        check_turned_down(&mut tally, &bytes, operands)
-            .and_then(|()| check_opened(&mut tally, &bytes, network.stations()))
-            .map_err(|what| format!("in {length} bytes, of the layout that had no version: {what}"))?;
+    for (name, before) in [("of version 17", bytes_of_17(&network)), ("that had no version", bytes_without_version(&network))] {
+        for length in [before.len(), LENGTH, LENGTH + 5] {
+            let mut bytes = before.clone();
+            bytes.resize(length, random.byte());
+            check_turned_down(&mut tally, &bytes, operands)
+                .and_then(|()| check_opened(&mut tally, &bytes, network.stations()))
+                .map_err(|what| format!("in {length} bytes, of the layout {name}: {what}"))?;
+        }
     }
     Ok(tally)
 }

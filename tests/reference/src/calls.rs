@@ -1,5 +1,5 @@
-//! 01, "What each call does", on memory in range. A call that is turned down ends with the first number of 01's table that applies,
-//! before it writes anything; the tests come in 01's order: 2, 3 to 6, 8, 7.
+//! 01, "What each call does", on memory in range, as 02's F-4 amends it. A call that is turned down ends with the first number of 01's
+//! table that applies, before it writes anything; the tests come in 01's order, with 13 in its place: 2, 3 to 6, 8, 13, 7.
 
 use crate::label::{new_label, Label, UNASSIGNED};
 use crate::network::{
@@ -50,6 +50,11 @@ impl Network {
         refused_if(k >= usize::from(self.in_air), 6)
     }
 
+    /// 13: "a station that would send has used 2^64 − 1". It would not where it has no packet to send.
+    fn test_serial(&self, from: usize, sent: usize) -> Result<(), u32> {
+        refused_if(sent > 0 && self.kept[from].serial == u64::MAX, 13)
+    }
+
     /// 7 where so many packets gone and so many sent make more than 128.
     fn test_room(&self, gone: usize, sent: usize) -> Result<(), u32> {
         refused_if(usize::from(self.in_air) - gone + sent > MAX_PACKETS, 7)
@@ -72,13 +77,18 @@ impl Network {
             ends == (a, b) || ends == (b, a)
         };
         let gone = self.air().iter().filter(|packet| between(packet)).count();
-        let lost = [(a, self.emptied(a, b, u16::MAX)), (b, self.emptied(b, a, u16::MAX))];
-        let sent = lost.iter().filter(|(_, mask)| *mask != 0).map(|(i, _)| self.neighbours(*i).count() - 1).sum();
+        // Entries leave whatever their number: none is above the last that there is.
+        let lost = [(a, self.emptied(a, b, u16::MAX, u64::MAX)), (b, self.emptied(b, a, u16::MAX, u64::MAX))];
+        // The link is up still, and each is a neighbour of the other.
+        let copies = lost.map(|(i, mask)| if mask == 0 { 0 } else { self.neighbours(i).count() - 1 });
+        self.test_serial(a, copies[0])?;
+        self.test_serial(b, copies[1])?;
+        let sent = copies.iter().sum();
         self.test_room(gone, sent)?;
         self.set_link(a, b, false);
         self.drop_packets(between);
-        self.take_out(a, b, u16::MAX);
-        self.take_out(b, a, u16::MAX);
+        self.take_out(a, b, u16::MAX, u64::MAX);
+        self.take_out(b, a, u16::MAX, u64::MAX);
         for (i, mask) in lost {
             if mask != 0 {
                 self.broadcast(i, error(mask));
@@ -93,9 +103,10 @@ impl Network {
         refused_if(self.kept[a].active == 1, 4)?;
         refused_if(self.kept[a].number == u32::MAX, 8)?;
         let sent = self.neighbours(a).count();
+        self.test_serial(a, sent)?;
         self.test_room(0, sent)?;
         let number = self.kept[a].number + 1;
-        self.kept[a] = Station { number, sought: t as u8, active: 1 };
+        self.kept[a] = Station { number, sought: t as u8, active: 1, ..self.kept[a] };
         let request = Packet { kind: REQUEST, source: a as u8, number, destination: t as u8, label: self.labels[a][t], ..NO_PACKET };
         self.broadcast(a, request);
         done(0, sent)
@@ -121,13 +132,13 @@ impl Network {
     }
 
     /// 02, F-3: "delivers packet 0 again and again, and loses it where Deliver gives 7, until the air is empty. It returns deliveries and
-    /// losses."
+    /// losses." F-4: "loses a packet answered 13 just as one answered 7".
     pub fn drain(&mut self) -> Drained {
         let mut drained = Drained::default();
         while self.in_air > 0 {
             match self.deliver(0) {
                 Ok(_) => drained.deliveries += 1,
-                Err(7) => {
+                Err(7 | 13) => {
                     self.remove_packet(0);
                     drained.losses += 1;
                 }
@@ -137,6 +148,7 @@ impl Network {
         drained
     }
 
+    /// The copy has the packet's number: "a duplicate keeps it".
     pub fn duplicate(&mut self, k: usize) -> Answer {
         self.test_packet(k)?;
         self.test_room(0, 1)?;
@@ -182,7 +194,14 @@ impl Network {
         // "if i's row isn't empty and (own s > R's s, or R's label is above i's and the reset bit is 0), it replies with its label"
         let own = self.labels[i][t];
         let replies = i == t || !self.rows[i][t].is_empty() && (own.s > r.label.s || r.label.above(own) && r.reset == 0);
-        let copies = if replies { 1 } else { self.neighbours(i).count() };
+        // "with the reset bit set and own s ≤ R's s, own s becomes R's s + 1 (104 and no reply if that exceeds 64 bits)"
+        let raised = if i == t && r.reset == 1 && own.s <= r.label.s { r.label.s.checked_add(1) } else { Some(own.s) };
+        let copies = match raised {
+            _ if !replies => self.neighbours(i).count(),
+            Some(_) => 1,
+            None => 0,
+        };
+        self.test_serial(i, copies)?;
         self.test_room(1, copies)?;
 
         self.remove_packet(k);
@@ -192,13 +211,8 @@ impl Network {
             self.broadcast(i, onward(&r, own));
             return done(103, copies);
         }
-        // "with the reset bit set and own s ≤ R's s, own s becomes R's s + 1 (104 and no reply if that exceeds 64 bits)"
-        if i == t && r.reset == 1 && own.s <= r.label.s {
-            match r.label.s.checked_add(1) {
-                Some(s) => self.labels[i][i].s = s,
-                None => return done(104, 0),
-            }
-        }
+        let Some(s) = raised else { return done(104, 0) };
+        self.labels[i][t].s = s;
         self.reply(&r, i, r.sender);
         done(102, 1)
     }
@@ -207,7 +221,6 @@ impl Network {
     fn deliver_reply(&mut self, k: usize) -> Answer {
         let v = self.packets[k];
         let (i, source, t) = (usize::from(v.receiver), usize::from(v.source), usize::from(v.destination));
-        self.remove_packet(k);
         // "111, nothing done, if i is the destination, or V's number and destination don't both match (at the source: its last request;
         // elsewhere: its record). C is unassigned at the source, else the record's."
         let record = self.records[i][source];
@@ -217,29 +230,36 @@ impl Network {
             (record.number, record.destination, record.cached)
         };
         if i == t || v.number != number || v.destination != destination {
+            self.remove_packet(k);
             return done(111, 0);
         }
-        // "New label with i's label: 112, 113, 114 set nothing. Otherwise 115: the label is taken; ..; a source becomes passive."
-        let outcome = match new_label(self.labels[i][t], cached, v.label) {
+        // "New label with i's label: 112, 113, 114 set nothing."
+        let own = self.labels[i][t];
+        let taken = new_label(own, cached, v.label);
+        // "if i isn't the source, hasn't passed a reply, has a non-empty row, C is above its label and the last hop's link is up, it
+        // sends a reply with its label there and marks the record." A label that is taken leaves j in the row.
+        let passes_on = i != source
+            && record.passed == 0
+            && (taken.is_ok() || !self.rows[i][t].is_empty())
+            && cached.above(taken.unwrap_or(own))
+            && self.link(i, usize::from(record.last_hop));
+        self.test_serial(i, usize::from(passes_on))?;
+
+        self.remove_packet(k);
+        // "Otherwise 115: the label is taken; ..; a source becomes passive." F-4: "A row entry keeps the number of the reply that made it."
+        let outcome = match taken {
             Err(number) => number,
             Ok(label) => {
                 self.labels[i][t] = label;
                 let row = &mut self.rows[i][t];
                 row.keep_below(label);
-                row.put(Successor { station: v.sender, label: v.label });
+                row.put(Successor { station: v.sender, label: v.label, serial: v.serial });
                 if i == source {
                     self.kept[i].active = 0;
                 }
                 115
             }
         };
-        // "if i isn't the source, hasn't passed a reply, has a non-empty row, C is above its label and the last hop's link is up, it
-        // sends a reply with its label there and marks the record."
-        let passes_on = i != source
-            && record.passed == 0
-            && !self.rows[i][t].is_empty()
-            && cached.above(self.labels[i][t])
-            && self.link(i, usize::from(record.last_hop));
         if passes_on {
             self.reply(&v, i, record.last_hop);
         }
@@ -248,27 +268,30 @@ impl Network {
 
     /// Station i replies with its label to the request that a packet tells of, and marks its record.
     fn reply(&mut self, about: &Packet, i: usize, to: u8) {
+        let serial = self.next_serial(i);
         self.append(Packet {
             sender: i as u8,
             receiver: to,
             kind: REPLY,
             label: self.labels[i][usize::from(about.destination)],
             reset: 0,
+            serial,
             ..*about
         });
         self.records[i][usize::from(about.source)].passed = 1;
     }
 
     /// "Error from j: j leaves each row i holds for a masked destination. 121 nothing removed; 122 none emptied; 123 some emptied, and
-    /// i broadcasts an error masking those."
+    /// i broadcasts an error masking those." F-4: "An error with a lower number leaves that entry in place."
     fn deliver_error(&mut self, k: usize) -> Answer {
         let e = self.packets[k];
         let (i, j) = (usize::from(e.receiver), usize::from(e.sender));
-        let emptied = self.emptied(i, j, e.mask);
+        let emptied = self.emptied(i, j, e.mask, e.serial);
         let sent = if emptied == 0 { 0 } else { self.neighbours(i).count() };
+        self.test_serial(i, sent)?;
         self.test_room(1, sent)?;
         self.remove_packet(k);
-        let removed = self.take_out(i, j, e.mask);
+        let removed = self.take_out(i, j, e.mask, e.serial);
         if emptied != 0 {
             self.broadcast(i, error(emptied));
         }
@@ -280,24 +303,26 @@ impl Network {
         done(outcome, sent)
     }
 
-    /// The mask of i's rows, for destinations of a mask, that j alone stands in.
-    fn emptied(&self, i: usize, j: usize, mask: u16) -> u16 {
+    /// The mask of i's rows, for destinations of a mask, that j alone stands in, by an entry that an error of this number takes out.
+    fn emptied(&self, i: usize, j: usize, mask: u16, serial: u64) -> u16 {
         let alone = |t: &usize| {
             let row = &self.rows[i][*t];
-            mask >> t & 1 == 1 && row.count == 1 && usize::from(row.entries[0].station) == j
+            mask >> t & 1 == 1 && row.count == 1 && usize::from(row.entries[0].station) == j && serial >= row.entries[0].serial
         };
         (0..self.stations()).filter(alone).fold(0, |emptied, t| emptied | 1 << t)
     }
 
-    /// Takes j out of i's rows for destinations of a mask; whether it stood in one.
-    fn take_out(&mut self, i: usize, j: usize, mask: u16) -> bool {
+    /// Takes j out of i's rows for destinations of a mask, where this number is not lower than the entry's; whether it took one out.
+    fn take_out(&mut self, i: usize, j: usize, mask: u16, serial: u64) -> bool {
         let mut removed = false;
         for t in 0..self.stations() {
-            if mask >> t & 1 == 1 {
-                if let Some(at) = self.rows[i][t].position(j) {
-                    self.rows[i][t].remove(at);
+            let row = &mut self.rows[i][t];
+            match row.position(j) {
+                Some(at) if mask >> t & 1 == 1 && serial >= row.entries[at].serial => {
+                    row.remove(at);
                     removed = true;
                 }
+                _ => (),
             }
         }
         removed

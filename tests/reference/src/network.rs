@@ -8,27 +8,29 @@ pub const MAX_SUCCESSORS: usize = 4;
 pub const MAX_PACKETS: usize = 128;
 
 /// What the first byte of the layout is.
-pub const VERSION: u8 = 17;
+pub const VERSION: u8 = 18;
 
 pub const REQUEST: u8 = 1;
 pub const REPLY: u8 = 2;
 pub const ERROR: u8 = 3;
 
-/// What a station keeps of its own requests.
+/// What a station keeps of its own requests, and the number of its last sending (02, F-4).
 #[repr(C, packed)]
 #[derive(Clone, Copy, PartialEq, Eq, Debug)]
 pub struct Station {
     pub number: u32,
     pub sought: u8,
     pub active: u8,
+    pub serial: u64,
 }
 
-/// An entry of a row: a station with the label that it advertised.
+/// An entry of a row: a station with the label that it advertised, and "the number of the reply that made it".
 #[repr(C, packed)]
 #[derive(Clone, Copy, PartialEq, Eq, Debug)]
 pub struct Successor {
     pub station: u8,
     pub label: Label,
+    pub serial: u64,
 }
 
 #[repr(C, packed)]
@@ -48,7 +50,7 @@ pub struct Record {
     pub passed: u8,
 }
 
-/// A packet. The fields that its kind does not use are 0.
+/// A packet. The fields that its kind does not use are 0. "Each packet carries its sending's number".
 #[repr(C, packed)]
 #[derive(Clone, Copy, PartialEq, Eq, Debug)]
 pub struct Packet {
@@ -61,6 +63,7 @@ pub struct Packet {
     pub label: Label,
     pub reset: u8,
     pub mask: u16,
+    pub serial: u64,
 }
 
 /// What a preview shows: a label and a row, or a mask, and 0 for the rest.
@@ -89,7 +92,7 @@ pub struct Network {
 }
 
 pub const LENGTH: usize = size_of::<Network>();
-const _: () = assert!(LENGTH == 31_587 && align_of::<Network>() == 1 && cfg!(target_endian = "little"));
+const _: () = assert!(LENGTH == 40_931 && align_of::<Network>() == 1 && cfg!(target_endian = "little"));
 
 /// The bytes of an entry as the layout has them.
 ///
@@ -109,13 +112,13 @@ unsafe impl Bytes for Packet {}
 unsafe impl Bytes for Preview {}
 unsafe impl Bytes for Network {}
 
-pub const NO_STATION: Station = Station { number: 0, sought: 0, active: 0 };
+pub const NO_STATION: Station = Station { number: 0, sought: 0, active: 0, serial: 0 };
 pub const NO_LABEL: Label = Label::new(0, 0, 0);
-pub const NO_SUCCESSOR: Successor = Successor { station: 0, label: NO_LABEL };
+pub const NO_SUCCESSOR: Successor = Successor { station: 0, label: NO_LABEL, serial: 0 };
 pub const NO_ROW: Row = Row { count: 0, entries: [NO_SUCCESSOR; MAX_SUCCESSORS] };
 pub const NO_RECORD: Record = Record { number: 0, destination: 0, cached: UNASSIGNED, last_hop: 0, passed: 0 };
 pub const NO_PACKET: Packet =
-    Packet { sender: 0, receiver: 0, kind: 0, source: 0, number: 0, destination: 0, label: NO_LABEL, reset: 0, mask: 0 };
+    Packet { sender: 0, receiver: 0, kind: 0, source: 0, number: 0, destination: 0, label: NO_LABEL, reset: 0, mask: 0, serial: 0 };
 pub const NO_PREVIEW: Preview = Preview { label: NO_LABEL, row: NO_ROW, mask: 0 };
 
 pub const NO_NETWORK: Network = Network {
@@ -248,11 +251,22 @@ impl Network {
         self.in_air += 1;
     }
 
-    /// "Broadcast appends one copy for each up neighbour, ascending."
+    /// 02, F-4: "Each station now numbers its sendings from 1 in 64 bits". The number of the sending that it makes now.
+    pub fn next_serial(&mut self, from: usize) -> u64 {
+        let serial = self.kept[from].serial + 1;
+        self.kept[from].serial = serial;
+        serial
+    }
+
+    /// "Broadcast appends one copy for each up neighbour, ascending." It has "one number .., none .. with no up neighbour".
     pub fn broadcast(&mut self, from: usize, packet: Packet) {
+        if self.neighbours(from).next().is_none() {
+            return;
+        }
+        let serial = self.next_serial(from);
         for to in 0..self.stations() {
             if self.link(from, to) {
-                self.append(Packet { sender: from as u8, receiver: to as u8, ..packet });
+                self.append(Packet { sender: from as u8, receiver: to as u8, serial, ..packet });
             }
         }
     }
@@ -279,7 +293,8 @@ impl Network {
         self.in_air = kept as u8;
     }
 
-    /// "Memory is in range if ..", and its bytes have a meaning (docs/LAYOUT.md, "What is turned down").
+    /// "Memory is in range if ..", and its bytes have a meaning (docs/LAYOUT.md, "What is turned down"). Nothing is asked of the sendings'
+    /// numbers.
     pub fn in_range(&self) -> bool {
         let n = self.stations();
         self.version == VERSION

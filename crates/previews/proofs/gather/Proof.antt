@@ -14,10 +14,10 @@ use Rattle.previews.proofs.gather.Tie as tie
 
 -- The rows read so far.
 abbrev Inv-loop : tie.InvT-loop
-Inv-loop k memory n air links at p station own cell slot s m d row kept active last sought rows₀ u₀ rows u = (u ≤ 16) × Filled 16 (λ t. getD (memory .rows) (place station t) zeroRow) rows u
+Inv-loop k memory n air links at p station own cell slot s m d row kept active serial last sought rows₀ u₀ rows u = (u ≤ 16) × Filled 16 (λ t. getD (memory .rows) (place station t) zeroRow) rows u
 
 abbrev μ-loop : tie.MeasureT-loop
-μ-loop k memory n air links at p station own cell slot s m d row kept active last sought rows₀ u₀ rows u = 16 - u
+μ-loop k memory n air links at p station own cell slot s m d row kept active serial last sought rows₀ u₀ rows u = 16 - u
 
 -- A place of the function, with this invariant and measure.
 abbrev Of : (tie.InvT-loop → tie.MeasureT-loop → Type 0) → Type 0
@@ -31,7 +31,7 @@ cells : (c : Of tie.After-place2) → (c .before .place .result < 256) × (c .pl
 cells c = let w = inside (c .before .before) in (omega (arith, c .before .place .ensures, w), omega (arith, c .place2 .ensures, w))
 
 abbrev placed : Of tie.At-loop → Of tie.After-place2
-placed c = c .before .before .before .before .before .before .before .before .before
+placed c = c .before .before .before .before .before .before .before .before .before .before
 
 abbrev spotted : Of tie.At-loop → Of tie.After-spot-of
 spotted c = placed c .before .before
@@ -93,14 +93,20 @@ element-copy-out-kept c = cells (c .before .before .before .before) .1
 element-copy-out-active : Of tie.Need-element-copy-out-active
 element-copy-out-active c = inside (c .before .before .before .before .before .before .before) .0
 
+mul-serial : Of tie.Need-mul-serial
+mul-serial c = record { fits = omega (arith, inside (c .before .before .before .before .before .before .before .before)) }
+
+element-copy-out-serial : Of tie.Need-element-copy-out-serial
+element-copy-out-serial c = inside (c .before .before .before .before .before .before .before .before) .0
+
 mul-last : Of tie.Need-mul-last
-mul-last c = record { fits = omega (arith, inside (c .before .before .before .before .before .before .before .before)) }
+mul-last c = record { fits = omega (arith, inside (c .before .before .before .before .before .before .before .before .before)) }
 
 element-copy-out-last : Of tie.Need-element-copy-out-last
-element-copy-out-last c = inside (c .before .before .before .before .before .before .before .before) .0
+element-copy-out-last c = inside (c .before .before .before .before .before .before .before .before .before) .0
 
 element-copy-out-sought : Of tie.Need-element-copy-out-sought
-element-copy-out-sought c = inside (c .before .before .before .before .before .before .before .before .before) .0
+element-copy-out-sought c = inside (c .before .before .before .before .before .before .before .before .before .before) .0
 
 loop-holds : Of tie.Need-loop-holds
 loop-holds c = (omega arith, filled-none 16 _ _ refl)
@@ -171,6 +177,8 @@ gather-spec =
     mul-kept
     element-copy-out-kept
     element-copy-out-active
+    mul-serial
+    element-copy-out-serial
     mul-last
     element-copy-out-last
     element-copy-out-sought

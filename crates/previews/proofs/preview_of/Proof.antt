@@ -8,6 +8,7 @@ use borrow.Author.Needs.{needs}
 use Rattle.model.specs.Memory.{zeroLabel, rowIn}
 use Rattle.rows.specs.View.{zeroRow, rowOf, NamesOnce}
 use Rattle.network.specs.declared.Memory.{Memory}
+use Rattle.network.specs.View.{zeroPacket}
 use Rattle.station.proofs.Laws.{sent-few}
 use Rattle.steps.proofs.CutLaws.{Lost, lost-none, lost-below, lost-alone}
 use Rattle.previews.specs.Gathered.{gatheredOf, InRange}
@@ -17,11 +18,11 @@ use Rattle.previews.proofs.preview_of.Tie as tie
 
 -- The rows looked at so far.
 abbrev Inv-loop : tie.InvT-loop
-Inv-loop k seen n count number left links station carried cut losses₀ u₀ losses u =
+Inv-loop k seen n count number left serial links station carried cut losses₀ u₀ losses u =
     (u ≤ n) × ((m : Memory) → InRange m → seen ≡ gatheredOf m k → Lost cut (map rowOf (m .rows)) u losses)
 
 abbrev μ-loop : tie.MeasureT-loop
-μ-loop k seen n count number left links station carried cut losses₀ u₀ losses u = n - u
+μ-loop k seen n count number left serial links station carried cut losses₀ u₀ losses u = n - u
 
 -- A place of the function, with this invariant and measure.
 abbrev Of : (tie.InvT-loop → tie.MeasureT-loop → Type 0) → Type 0
@@ -48,20 +49,20 @@ names-once c =
     rows-known s e (past .before .refusal .ensures) (past .if1 .left) (c .before .before .loop .u) (below (c .before) .0) .1
 
 abbrev lost-of : Of tie.After-copies → Of tie.At-loop
-lost-of c = c .before .before .before .before .before
+lost-of c = c .before .before .before .before
 
 few : (c : Of tie.After-copies) → (begin (arm (lost-of c .before)) .args .t1 .count ≤ 128) × (c .copies .result ≤ 16)
-few c = let w = landing (arm (lost-of c .before)) in (w .few-packets, rw (c .copies .ensures) (sent-few _ _ _ _ _ (w .few-stations)))
+few c = let w = landing (arm (lost-of c .before)) in (w .few-packets, rw (c .copies .ensures zeroPacket) (sent-few _ _ _ zeroPacket _ (w .few-stations)))
 
 -- A request or a reply.
 abbrev other-arm : Of tie.After-last → Of tie.Else1
 other-arm c = c .before .before .before .before
 
 abbrev changed : Of tie.After-copies2 → Of tie.After-change-of
-changed c = c .before .before .before .before .before
+changed c = c .before .before .before .before
 
 few-sent : (c : Of tie.After-copies2) → (begin (other-arm (changed c .before)) .args .t1 .count ≤ 128) × (c .copies2 .result ≤ 16)
-few-sent c = let w = landing (other-arm (changed c .before)) in (w .few-packets, rw (c .copies2 .ensures) (sent-few _ _ _ _ _ (w .few-stations)))
+few-sent c = let w = landing (other-arm (changed c .before)) in (w .few-packets, rw (c .copies2 .ensures zeroPacket) (sent-few _ _ _ zeroPacket _ (w .few-stations)))
 
 refusal-requires : Of tie.Need-refusal-requires
 refusal-requires c κs = search needs
@@ -112,7 +113,7 @@ loop-again c = (
       let cut = at .before .cut-of .ensures .1 refl in
       let found = c .with-rows .ensures in
       let row = rows-known s e (past .before .refusal .ensures) (past .if1 .left) (at .loop .u) (below (c .before .before) .0) .2 in
-      lost-alone (at .loop .inv .1 m s e) _ (cut .3) (row ∙ ap (λ (i : ℕ). rowIn (map rowOf (m .rows)) i (at .loop .u)) (sym (cut .0))) (found .0) (found .1 .0) (found .1 .1),
+      lost-alone (at .loop .inv .1 m s e) _ (cut .others-is) (row ∙ ap (λ (i : ℕ). rowIn (map rowOf (m .rows)) i (at .loop .u)) (sym (cut .first-is))) (found .0) (found .1 .0) (found .1 .1),
 )
 
 cut-answer-requires : Of tie.Need-cut-answer-requires
@@ -121,11 +122,8 @@ cut-answer-requires c κs = search needs
 error-scope-requires : Of tie.Need-error-scope-requires
 error-scope-requires c κs = search needs
 
-error-requires : Of tie.Need-error-requires
-error-requires c κs = search needs
-
 copies-requires : Of tie.Need-copies-requires
-copies-requires c κs = let w = landing (arm (c .before .before .before .before .before)) in (w .few-stations, omega (arith, w .receiver-below, w .few-stations))
+copies-requires c κs = let w = landing (arm (c .before .before .before .before)) in (w .few-stations, omega (arith, w .receiver-below, w .few-stations))
 
 label-of-requires : Of tie.Need-label-of-requires
 label-of-requires c κs = search needs
@@ -142,11 +140,11 @@ returns-2 c = λ m s e.
     let sent = c .before .before .before in
     let at = lost-of sent in
     let past = arm (at .before) in
-    let last : at .loop .u ≡ begin past .args .t1 .n = omega (arith, at .loop .inv .0, sent .before .before .before .before .loop-test) in
+    let last : at .loop .u ≡ begin past .args .t1 .n = omega (arith, at .loop .inv .0, sent .before .before .before .loop-test) in
     let lost = subst (λ (u : ℕ). Lost (at .before .cut-of .result) (map rowOf (m .rows)) u (at .loop .losses)) last (at .loop .inv .1 m s e) in
     c .shown .ensures
-    ∙ gathered-error s e (past .before .refusal .ensures) (past .if1 .left) (at .before .before .if2 .taken) _ _ (at .before .cut-of .ensures .1 refl) lost _ _ _ _ _ _ (c .before .before .label-of .ensures) (c .before .empty-row .ensures)
-    (sent .before .before .before .cut-answer .ensures) (sent .before .before .error-scope .ensures) (sent .before .error .ensures) (sent .copies .ensures)
+    ∙ gathered-error s e (past .before .refusal .ensures) (past .if1 .left) (at .before .before .if2 .taken) _ _ (at .before .cut-of .ensures .1 refl) lost _ _ _ _ _ (c .before .before .label-of .ensures) (c .before .empty-row .ensures)
+    (sent .before .before .cut-answer .ensures) (sent .before .error-scope .ensures) (sent .copies .ensures)
 
 change-of-requires : Of tie.Need-change-of-requires
 change-of-requires c κs =
@@ -155,7 +153,7 @@ change-of-requires c κs =
     (λ x. absurd (omega arith), λ x. gathered-ready s e (past .before .refusal .ensures) (past .if1 .left) (c .before .before .if2 .left))
 
 copies-requires-2 : Of tie.Need-copies-requires-2
-copies-requires-2 c κs = let w = landing (other-arm (c .before .before .before .before .before)) in (w .few-stations, omega (arith, w .receiver-below, w .few-stations))
+copies-requires-2 c κs = let w = landing (other-arm (c .before .before .before .before)) in (w .few-stations, omega (arith, w .receiver-below, w .few-stations))
 
 shown-requires-2 : Of tie.Need-shown-requires-2
 shown-requires-2 c κs = omega (arith, few-sent c)
@@ -188,7 +186,6 @@ preview-of-spec =
     loop-again
     cut-answer-requires
     error-scope-requires
-    error-requires
     copies-requires
     label-of-requires
     empty-row-requires

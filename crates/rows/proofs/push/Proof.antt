@@ -1,28 +1,22 @@
--- `push` meets its contract: an entry written at the count is one more.
-use native.Mathlib.Omega.{arith}
+-- `push` meets its contract: the entry is written at the count, and counted.
 use borrow.Author.Needs.{needs}
-use Rattle.rows.proofs.Bounds.{row-lengths}
+use Rattle.rows.specs.View.{rowOf, entryOf}
 use Rattle.rows.proofs.RowLaws.{row-push}
 use Rattle.rows.proofs.push.Statement.{statement}
 use Rattle.rows.proofs.push.Tie as tie
 
-cast-at : tie.Need-cast-at
-cast-at c = search needs
+cast-with-entry : tie.Need-cast-with-entry
+cast-with-entry c = search needs
 
-element-write-next : tie.Need-element-write-next
-element-write-next c = search needs
-
-mul-label : tie.Need-mul-label
-mul-label c = search needs
-
-element-set-from-label : tie.Need-element-set-from-label
-element-set-from-label c = search needs
+with-entry-requires : tie.Need-with-entry-requires
+with-entry-requires c κs = search needs
 
 add-next : tie.Need-add-next
 add-next c = search needs
 
 returns : tie.Need-returns
-returns c = row-push (c .args .row) (row-lengths (c .args .row) (c .good .0)) _ _ (omega arith)
+unfolding rowOf entryOf
+returns c = row-push (c .before .args .row) (c .with-entry .result) _ (c .with-entry .ensures)
 
 pub push-spec : {M : Type 1} → statement M
-push-spec = tie.close (tie.spec cast-at element-write-next mul-label element-set-from-label add-next returns)
+push-spec = tie.close (tie.spec cast-with-entry with-entry-requires add-next returns)

@@ -6,11 +6,11 @@ use borrow.Author.Needs.{needs}
 use Rattle.base.proofs.Booleans.{was-true, was-false}
 use Rattle.base.specs.Results.{accepted}
 use Rattle.layout.specs.Meaning.{storedNetwork}
-use Rattle.layout.proofs.MeaningLaws.{Known}
+use Rattle.layout.proofs.MeaningLaws.{Readable}
 use Rattle.console.specs.Packed.{packed}
 use Rattle.console.specs.Showing.{outOfRange, showPart}
 use Rattle.console.specs.Parts.{partIn}
-use Rattle.console.proofs.ShowLaws.{range-known, puts-1, puts-other, puts-12, puts-shown}
+use Rattle.console.proofs.ShowLaws.{range-readable, puts-1, puts-other, puts-12, puts-shown}
 use Rattle.console.proofs.ShownLaws.{part-refused, part-shown, part-wide}
 use Rattle.console.proofs.showing.show.Statement.{statement}
 use Rattle.console.proofs.showing.show.Tie as tie
@@ -19,8 +19,8 @@ use Rattle.console.proofs.showing.show.Tie as tie
 in-range : (c : tie.Else1) → outOfRange (c .before .before .before .before .args .memory .now) ≡ false
 in-range c = was-false _ _ (c .before .out-of-range .ensures) (c .if1 .left)
 
-here : (c : tie.Else1) → Known (c .before .before .before .before .args .memory .now)
-here c = range-known _ (in-range c)
+here : (c : tie.Else1) → Readable (c .before .before .before .before .args .memory .now)
+here c = range-readable _ (in-range c)
 
 abbrev first : tie.Else2 → tie.Else1
 first c = c .before .before .before .before

@@ -3,15 +3,15 @@ use native.Mathlib.Omega.{arith}
 use borrow.Author.Needs.{needs}
 use Rattle.base.proofs.Booleans.{was-true, was-false}
 use Rattle.layout.specs.Places.{airAt}
-use Rattle.layout.proofs.MeaningLaws.{Known}
-use Rattle.console.proofs.ShowLaws.{range-known, tells-1, tells-value}
+use Rattle.layout.proofs.MeaningLaws.{Readable}
+use Rattle.console.proofs.ShowLaws.{range-readable, tells-1, tells-value}
 use Rattle.console.proofs.ShownLaws.{show-air}
 use Rattle.console.proofs.showing.srp_air.Statement.{statement}
 use Rattle.console.proofs.showing.srp_air.Tie as tie
 
 -- Past the first test the bytes are in range.
-here : (c : tie.Else1) → Known (c .before .before .before .args .memory .now)
-here c = range-known _ (was-false _ _ (c .before .out-of-range .ensures) (c .if1 .left))
+here : (c : tie.Else1) → Readable (c .before .before .before .args .memory .now)
+here c = range-readable _ (was-false _ _ (c .before .out-of-range .ensures) (c .if1 .left))
 
 out-of-range-requires : tie.Need-out-of-range-requires
 out-of-range-requires c κs = search needs

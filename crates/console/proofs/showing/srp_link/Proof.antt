@@ -5,9 +5,9 @@ use mathlib.Core.Bool.{false}
 use native.Mathlib.Omega.{arith}
 use borrow.Author.Needs.{needs}
 use Rattle.base.proofs.Booleans.{was-true, was-false}
-use Rattle.layout.proofs.MeaningLaws.{Known}
+use Rattle.layout.proofs.MeaningLaws.{Readable}
 use Rattle.console.specs.Showing.{outOfRange}
-use Rattle.console.proofs.ShowLaws.{range-known, tells-1, tells-refused, tells-value}
+use Rattle.console.proofs.ShowLaws.{range-readable, tells-1, tells-refused, tells-value}
 use Rattle.console.proofs.ShownLaws.{noPair, pair-below, show-link-2, show-link}
 use Rattle.console.proofs.showing.srp_link.Statement.{statement}
 use Rattle.console.proofs.showing.srp_link.Tie as tie
@@ -16,8 +16,8 @@ use Rattle.console.proofs.showing.srp_link.Tie as tie
 in-range : (c : tie.Else1) → outOfRange (c .before .before .before .args .memory .now) ≡ false
 in-range c = was-false _ _ (c .before .out-of-range .ensures) (c .if1 .left)
 
-here : (c : tie.Else1) → Known (c .before .before .before .args .memory .now)
-here c = range-known _ (in-range c)
+here : (c : tie.Else1) → Readable (c .before .before .before .args .memory .now)
+here c = range-readable _ (in-range c)
 
 abbrev first : tie.Else2 → tie.Else1
 first c = c .before .before .before

@@ -7,6 +7,7 @@ use Rattle.base.proofs.Loops.{tabulate-at, tabulate-or}
 use Rattle.model.specs.Memory.{zeroLabel}
 use Rattle.rows.specs.View.{entryOf, rowOf}
 use Rattle.layout.specs.Formats.{zeroSuccessor}
+use Rattle.layout.proofs.EntryLaws.{successor-in}
 use Rattle.layout.proofs.entries.entry_of.Statement.{statement}
 use Rattle.layout.proofs.entries.entry_of.Tie as tie
 
@@ -17,34 +18,20 @@ label-of-requires : tie.Need-label-of-requires
 label-of-requires c κs = search needs
 
 returns : tie.Need-returns
-unfolding rowOf entryOf zeroSuccessor zeroLabel
+unfolding rowOf zeroSuccessor zeroLabel
 returns c =
-    let row = c .before .before .args .t1 in
-    rw (c .label-of .ensures) (sym (tabulate-or (row .count) (entryOf row) (c .before .before .args .k) zeroSuccessor ∙ rw (le-ltb (c .before .before .args .k) (row .count) (c .before .if1 .taken))))
+    let args = c .before .before .before .args in
+    let row = args .row in
+    rw (c .label-of .ensures) (sym (tabulate-or (row .count) (entryOf row) (args .k) zeroSuccessor ∙ rw (le-ltb (args .k) (row .count) (c .before .if1 .taken))))
 
-mul-label : tie.Need-mul-label
-mul-label c = search needs
-
-element-copy-out-label : tie.Need-element-copy-out-label
-element-copy-out-label c = search needs
-
-element-copy-out-station : tie.Need-element-copy-out-station
-element-copy-out-station c = search needs
+entry-requires : tie.Need-entry-requires
+entry-requires c κs = search needs
 
 returns-2 : tie.Need-returns-2
-unfolding rowOf entryOf
+unfolding rowOf
 returns-2 c =
-    let row = c .before .before .before .args .t1 in
-    sym (tabulate-at (row .count) (entryOf row) (c .before .before .before .args .k) zeroSuccessor (omega arith))
+    let args = c .before .before .before .args in
+    sym (successor-in (c .entry .result)) ∙ c .entry .ensures ∙ sym (tabulate-at (args .row .count) (entryOf (args .row)) (args .k) zeroSuccessor (omega arith))
 
 pub entry-of-spec : {M : Type 1} → statement M
-entry-of-spec =
-    tie.close
-    (tie.spec
-    cast-count
-    label-of-requires
-    returns
-    mul-label
-    element-copy-out-label
-    element-copy-out-station
-    returns-2)
+entry-of-spec = tie.close (tie.spec cast-count label-of-requires returns entry-requires returns-2)

@@ -31,7 +31,7 @@ shared-slice-read-n c = search needs
 returns : tie.Need-returns
 unfolding view networkIn
 returns c =
-    let links = c .before .before .before .before .before .before .before in
+    let links = c .before .before .before .before .before .before .before .before in
     let stations = links .before in
     let records = stations .before in
     let rows = records .before in
@@ -46,6 +46,7 @@ returns c =
       numbers = kept .0 i;
       sought = kept .1 i;
       active = kept .2 i;
+      serials = kept .3 i;
       air = labels .before .read-air .ensures i;
     }
 

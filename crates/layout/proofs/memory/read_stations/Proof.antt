@@ -14,16 +14,17 @@ use Rattle.layout.proofs.memory.read_stations.Statement.{statement}
 use Rattle.layout.proofs.memory.read_stations.Tie as tie
 
 abbrev Inv-loop : tie.InvT-loop
-Inv-loop bytes numbers₀ sought₀ active₀ i₀ numbers sought active i =
+Inv-loop bytes numbers₀ sought₀ active₀ serials₀ i₀ numbers sought active serials i =
     (i ≤ 16) × Filled 16 (λ k. storedStation bytes (stationsAt + stationWide * k) .number) (map (λ (x : RequestNumber). x .0) numbers) i
     × Filled 16 (λ k. storedStation bytes (stationsAt + stationWide * k) .sought) sought i
     × Filled 16 (λ k. storedStation bytes (stationsAt + stationWide * k) .active) active i
+    × Filled 16 (λ k. storedStation bytes (stationsAt + stationWide * k) .serial) serials i
 
 abbrev μ-loop : tie.MeasureT-loop
-μ-loop bytes numbers₀ sought₀ active₀ i₀ numbers sought active i = 16 - i
+μ-loop bytes numbers₀ sought₀ active₀ serials₀ i₀ numbers sought active serials i = 16 - i
 
 loop-holds : tie.Need-loop-holds Inv-loop μ-loop
-loop-holds c = (omega arith, filled-none _ _ _ refl, filled-none _ _ _ refl, filled-none _ _ _ refl)
+loop-holds c = (omega arith, filled-none _ _ _ refl, filled-none _ _ _ refl, filled-none _ _ _ refl, filled-none _ _ _ refl)
 
 mul-read-station : tie.Need-mul-read-station Inv-loop μ-loop
 mul-read-station c = search needs
@@ -46,6 +47,12 @@ array-write-sought c = search needs
 array-write-active : tie.Need-array-write-active Inv-loop μ-loop
 array-write-active c = search needs
 
+mul-serials : tie.Need-mul-serials Inv-loop μ-loop
+mul-serials c = search needs
+
+array-write-serials : tie.Need-array-write-serials Inv-loop μ-loop
+array-write-serials c = search needs
+
 add-i : tie.Need-add-i Inv-loop μ-loop
 add-i c = search needs
 
@@ -60,6 +67,7 @@ loop-again c =
       filled-map-more (λ (x : RequestNumber). x .0) _ _ (loop .numbers) (loop .i) _ (loop .inv .1) (omega arith) (ap (λ (k : Station). k .number) kept),
       filled-more _ _ (loop .sought) (loop .i) _ (loop .inv .2) (omega arith) (ap (λ (k : Station). k .sought) kept),
       filled-more _ _ (loop .active) (loop .i) _ (loop .inv .3) (omega arith) (ap (λ (k : Station). k .active) kept),
+      filled-more _ _ (loop .serials) (loop .i) _ (loop .inv .4) (omega arith) (ap (λ (k : Station). k .serial) kept),
     )
 
 returns : tie.Need-returns Inv-loop μ-loop
@@ -68,10 +76,12 @@ returns c =
     let numbers = filled-all _ _ (map (λ (x : RequestNumber). x .0) (loop .numbers)) (loop .i) (loop .inv .1) (omega arith) in
     let sought = filled-all _ _ (loop .sought) (loop .i) (loop .inv .2) (omega arith) in
     let active = filled-all _ _ (loop .active) (loop .i) (loop .inv .3) (omega arith) in
+    let serials = filled-all _ _ (loop .serials) (loop .i) (loop .inv .4) (omega arith) in
     let bytes = c .before .before .before .args .bytes .now in (
       numbers ∙ stations-stored bytes (λ (k : Station). k .number),
       sought ∙ stations-stored bytes (λ (k : Station). k .sought),
       active ∙ stations-stored bytes (λ (k : Station). k .active),
+      serials ∙ stations-stored bytes (λ (k : Station). k .serial),
     )
 
 pub read-stations-spec : {M : Type 1} → statement M
@@ -88,6 +98,8 @@ read-stations-spec =
     array-set-from-numbers
     array-write-sought
     array-write-active
+    mul-serials
+    array-write-serials
     add-i
     loop-less
     loop-again

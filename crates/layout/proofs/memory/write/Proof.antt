@@ -44,7 +44,7 @@ put-air-requires c κs =
     let stations = links .before .before .before .before in
     let size = stations .before .before .before .before in
     let version = size .before .before .before .before in
-    let start = version .before .before .before .before .before .before .before .before .before .before .before .before .before in
+    let start = version .before .before .before .before .before .before .before .before .before .before .before .before .before .before in
     omega (arith, start .pre, version .put-byte .kept .0, size .put-byte2 .kept .0, stations .write-stations .kept .0, links .write-links .kept .0, labels .write-labels .kept .0, rows .write-rows .kept .0, records .write-records .kept .0)
 
 same-length : tie.Need-same-length
@@ -61,13 +61,13 @@ returns c =
     let stations = links .before .before .before .before in
     let size = stations .before .before .before .before in
     let version = size .before .before .before .before in
-    let start = version .before .before .before .before .before .before .before .before .before .before .before .before .before in
+    let start = version .before .before .before .before .before .before .before .before .before .before .before .before .before .before in
     let memory = start .args .memory in
     let net = view memory in
     let out = start .args .out .now in
     let long = memory-lengths memory (start .good .1 .0) in
     let fits : NetworkFits net = record {
-      stations = record { entries = stations .write-stations .ensures .1; numbers-long = length-map (memory .numbers) (λ (k : RequestNumber). k .0) ∙ long .numbers-length; sought-long = long .sought-length; active-long = long .active-length };
+      stations = record { entries = stations .write-stations .ensures .1; numbers-long = length-map (memory .numbers) (λ (k : RequestNumber). k .0) ∙ long .numbers-length; sought-long = long .sought-length; active-long = long .active-length; serials-long = long .serials-length };
       links = links .write-links .ensures .1;
       labels = labels .write-labels .ensures .1;
       rows = rows .write-rows .ensures .1;

@@ -36,6 +36,12 @@ element-copy-out-sought c = search needs
 element-copy-out-active : tie.Need-element-copy-out-active Inv-loop μ-loop
 element-copy-out-active c = search needs
 
+mul-serial : tie.Need-mul-serial Inv-loop μ-loop
+mul-serial c = search needs
+
+element-copy-out-serial : tie.Need-element-copy-out-serial Inv-loop μ-loop
+element-copy-out-serial c = search needs
+
 mul-put-station : tie.Need-mul-put-station Inv-loop μ-loop
 mul-put-station c = search needs
 
@@ -44,7 +50,7 @@ add-put-station c = search needs
 
 put-station-requires : tie.Need-put-station-requires Inv-loop μ-loop
 put-station-requires c κs =
-    let loop = c .before .before .before .before .before .loop in
+    let loop = c .before .before .before .before .before .before .loop in
     omega (arith, loop .inv .1, put-length stationBytes (Fits stationFormat) _ _ _ (loop .out) (loop .i) (loop .inv .2))
 
 add-i : tie.Need-add-i Inv-loop μ-loop
@@ -57,7 +63,7 @@ loop-again : tie.Need-loop-again Inv-loop μ-loop
 unfolding stationsFrom
 loop-again c =
     let put = c .before .before in
-    let at = put .before .before .before .before .before .before in
+    let at = put .before .before .before .before .before .before .before in
     let loop = at .loop in
     (omega arith, loop .inv .1, put-more stationBytes (Fits stationFormat) _ _ _ (loop .out) (loop .i) (loop .inv .2) _ (written-wide stationFormat) _ (station-same (at .before .before .args .t2) (loop .i)) _ (put .put-station .ensures .0) (put .put-station .ensures .1))
 
@@ -82,6 +88,8 @@ write-stations-spec =
     element-copy-out-number
     element-copy-out-sought
     element-copy-out-active
+    mul-serial
+    element-copy-out-serial
     mul-put-station
     add-put-station
     put-station-requires

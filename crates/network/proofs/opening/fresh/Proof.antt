@@ -7,7 +7,6 @@ use borrow.Author.Needs.{needs}
 use Rattle.base.specs.Lists.{tabulate}
 use Rattle.label.specs.Label.{unassigned}
 use Rattle.model.specs.Memory.{freshLabels, freshRecord}
-use Rattle.rows.specs.View.{rowOf}
 use Rattle.network.specs.View.{recordOf, packetsOf, labelOf}
 use Rattle.network.proofs.ViewLaws.{Labels, labels-none, labels-own, view-fresh}
 use Rattle.network.proofs.opening.fresh.Statement.{statement}
@@ -62,11 +61,15 @@ loop-again c =
       rw (c .place .ensures) (labels-own _ _ _ _ _ long (omega arith) (at .inv .2)),
     )
 
+empty-row-requires : tie.Need-empty-row-requires Inv-loop μ-loop
+empty-row-requires c κs = search needs
+
 returns : tie.Need-returns Inv-loop μ-loop
-unfolding rowOf recordOf packetsOf tabulate freshRecord unassigned
+unfolding recordOf packetsOf tabulate freshRecord unassigned
 returns c =
-    let e : c .before .loop .t ≡ c .before .before .args .n = omega arith in
-    view-fresh _ _ _ _ _ _ _ _ (rw e at (c .before .loop .inv .2)) refl refl refl
+    let loop = c .before .before .loop in
+    let e : loop .t ≡ c .before .before .before .args .n = omega arith in
+    view-fresh _ _ _ _ _ _ _ _ (rw e at (loop .inv .2)) (c .empty-row .ensures) refl refl
 
 pub fresh-spec : {M : Type 1} → statement M
 fresh-spec =
@@ -85,4 +88,5 @@ fresh-spec =
     add-t
     loop-less
     loop-again
+    empty-row-requires
     returns)

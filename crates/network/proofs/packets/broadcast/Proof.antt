@@ -22,7 +22,7 @@ abbrev Inv-loop : tie.InvT-loop
 Inv-loop count n a p packets₀ links end₀ b₀ packets end b =
     (b ≤ n)
     × (end ≡ count + length (below b (linkIn links a)))
-    × Held (packetsOf packets₀ count ++ map (λ x. packet a x (bodyOf p)) (below b (linkIn links a))) packets end
+    × Held (packetsOf packets₀ count ++ map (λ x. packet a x (bodyOf p) (p .serial)) (below b (linkIn links a))) packets end
 
 abbrev μ-loop : tie.MeasureT-loop
 μ-loop count n a p packets₀ links end₀ b₀ packets end b = n - b
@@ -79,7 +79,7 @@ loop-again c =
     let args = c .before .before .before .before .before .args in
     let at = c .before .before .before .before .loop in
     let up = linkIn (args .t3) (args .a) in
-    let copy : ℕ → model.Packet = λ x. packet (args .a) x (bodyOf (args .p)) in
+    let copy : ℕ → model.Packet = λ x. packet (args .a) x (bodyOf (args .p)) (args .p .serial) in
     cases
     (c .if1 .came)
     (λ w.

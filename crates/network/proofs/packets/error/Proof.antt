@@ -10,7 +10,7 @@ label-of-requires c κs = search needs
 
 returns : tie.Need-returns
 unfolding bodyOf
-returns c = refl
+returns c = (refl, refl)
 
 pub error-spec : {M : Type 1} → statement M
 error-spec = tie.close (tie.spec label-of-requires returns)

@@ -13,10 +13,10 @@ use Rattle.network.proofs.range.entries_in_range.Statement.{statement}
 use Rattle.network.proofs.range.entries_in_range.Tie as tie
 
 abbrev Inv-loop : tie.InvT-loop
-Inv-loop n i row count k₀ k = (k ≤ count) × (allBelow k (λ x. successorInRange n i (entryOf row x)) ≡ true)
+Inv-loop row n i count k₀ k = (k ≤ count) × (allBelow k (λ x. successorInRange n i (entryOf row x)) ≡ true)
 
 abbrev μ-loop : tie.MeasureT-loop
-μ-loop n i row count k₀ k = count - k
+μ-loop row n i count k₀ k = count - k
 
 cast-count : tie.Need-cast-count Inv-loop μ-loop
 cast-count c = search needs
@@ -24,22 +24,20 @@ cast-count c = search needs
 loop-holds : tie.Need-loop-holds Inv-loop μ-loop
 loop-holds c = (omega arith, all-none _)
 
-element-copy-out-station : tie.Need-element-copy-out-station Inv-loop μ-loop
-element-copy-out-station c = search needs
-
-mul-label : tie.Need-mul-label Inv-loop μ-loop
-mul-label c = search needs
-
-element-copy-out-label : tie.Need-element-copy-out-label Inv-loop μ-loop
-element-copy-out-label c = search needs
+entry-requires : tie.Need-entry-requires Inv-loop μ-loop
+entry-requires c κs = search needs
 
 entry-in-range-requires : tie.Need-entry-in-range-requires Inv-loop μ-loop
 entry-in-range-requires c κs = search needs
 
+-- The test is of the entry.
+tested : (c : tie.After-entry-in-range Inv-loop μ-loop) → let args = c .before .before .before .before .before .args in
+    c .entry-in-range .result ≡ successorInRange (args .n) (args .i) (entryOf (args .row) (c .before .before .before .loop .k))
+tested c = rw (c .before .entry .ensures) at (c .entry-in-range .ensures)
+
 returns : tie.Need-returns Inv-loop μ-loop
-unfolding rowOf entryOf
-returns c =
-    sym (all-tabulate _ _ _ ∙ all-broken _ _ _ (omega arith) (not-was-false _ _ (c .before .entry-in-range .ensures) (c .if1 .taken)))
+unfolding rowOf
+returns c = sym (all-tabulate _ _ _ ∙ all-broken _ _ _ (omega arith) (not-was-false _ _ (tested (c .before)) (c .if1 .taken)))
 
 add-k : tie.Need-add-k Inv-loop μ-loop
 add-k c = search needs
@@ -48,10 +46,7 @@ loop-less : tie.Need-loop-less Inv-loop μ-loop
 loop-less c = search needs
 
 loop-again : tie.Need-loop-again Inv-loop μ-loop
-unfolding entryOf
-loop-again c =
-    let turn = c .before .before .before .before in
-    (omega arith, all-more _ _ (turn .before .loop .inv .1) (not-was-true _ _ (c .before .entry-in-range .ensures) (c .if1 .left)))
+loop-again c = (omega arith, all-more _ _ (c .before .before .before .before .loop .inv .1) (not-was-true _ _ (tested (c .before)) (c .if1 .left)))
 
 returns-2 : tie.Need-returns-2 Inv-loop μ-loop
 unfolding rowOf
@@ -65,9 +60,7 @@ entries-in-range-spec =
     μ-loop
     cast-count
     loop-holds
-    element-copy-out-station
-    mul-label
-    element-copy-out-label
+    entry-requires
     entry-in-range-requires
     returns
     add-k

@@ -11,7 +11,8 @@ use borrow.Author.Needs.{needs}
 use native.Mathlib.Nat.{sub-zero}
 use borrow.Author.Tests.{eq-eqb, eqb-true, ltb-true, ltb-false}
 use Rattle.base.specs.Choice.{if_then_else_}
-use Rattle.model.specs.Memory.{names, rowIn, rowAt, place, memoryInRange, airLimit}
+use Rattle.base.specs.Numbers.{maxU64}
+use Rattle.model.specs.Memory.{rowIn, rowAt, place, memoryInRange, airLimit}
 use Rattle.model.specs.Calls.{takeOut, bit, hopLimit, follow}
 use Rattle.model.specs.Events.{eventOf}
 use Rattle.rows.specs.declared.Row.{Row}
@@ -22,7 +23,9 @@ use Rattle.network.specs.View.{zeroPacket, labelOf, view}
 use Rattle.network.proofs.ViewLaws.{row-at}
 use Rattle.network.proofs.Bounds.{memory-lengths, array-length}
 use Rattle.network.proofs.Ranged.{Ranged}
+use Rattle.decisions.specs.Cutting.{leavesBy}
 use Rattle.decisions.specs.Tracing.{tells}
+use Rattle.decisions.proofs.RefusalLaws.{number-left, air-within}
 use Rattle.station.proofs.Laws.{sent-few}
 use Rattle.steps.specs.Lines.{Packs}
 use Rattle.steps.specs.Source.{goesOn}
@@ -31,9 +34,9 @@ use Rattle.steps.proofs.PacketMoves.{rest-down, rest-one-less, rest-few
 use Rattle.steps.proofs.RunLaws.{airing, Shape, lengths-shape, shape-ranged, Turn, mostEvents, place-most, Begins, few-events}
 use Rattle.steps.proofs.RunLaws.{turn-none, turn-below, turn-room, turn-listed, turn-lost, turn-more, turn-ends}
 use Rattle.steps.proofs.ArmLaws.{seen, Tested, class-cut, turned-down, light-shape, light-happens, trace-below, trace-happens}
-use Rattle.steps.proofs.ChangeLaws.{Looks, unused, arrived, goes, changed, changed-shape, change-7, ChangeMoved, change-happens}
+use Rattle.steps.proofs.ChangeLaws.{Looks, unused, arrived, goes, changed, changed-shape, change-stopped, ChangeMoved, change-happens}
 use Rattle.steps.proofs.CutLaws.{Lost, lost-none, lost-below, lost-more, CutRows, cut-none, cut-more, cut-all}
-use Rattle.steps.proofs.PartingLaws.{cut-below, cut-there, with-rows, with-links, Cutting, cut-shape, cut-7, CutMoved, cut-happens}
+use Rattle.steps.proofs.PartingLaws.{cut-below, cut-there, with-rows, with-links, Cutting, cut-shape, counted-serials, cut-stopped, CutMoved, cut-happens}
 use Rattle.steps.proofs.running.run.Statement.{statement}
 use Rattle.steps.proofs.running.run.Tie as tie
 
@@ -57,11 +60,11 @@ abbrev μ-loop3 : tie.MeasureT-loop3
 
 -- The rows cut so far.
 abbrev Inv-loop4 : tie.InvT-loop4
-Inv-loop4 drains kinds operands lines memory₀ packets count lost i kind a b at n k station t own pair linked active number class cut first second edge up links losses u left q z scope other sent more turns v₀ memory v =
+Inv-loop4 drains kinds operands lines memory₀ packets count lost i kind a b at n k station t own pair linked active number class cut first second edge up links losses u left scope other sent more total here there mine theirs stop turns v₀ memory v =
     (v ≤ turns) × (memory ≡ with-rows memory₀ (memory .rows)) × CutRows cut (memory₀ .rows) v (memory .rows)
 
 abbrev μ-loop4 : tie.MeasureT-loop4
-μ-loop4 drains kinds operands lines memory₀ packets count lost i kind a b at n k station t own pair linked active number class cut first second edge up links losses u left q z scope other sent more turns v₀ memory v = turns - v
+μ-loop4 drains kinds operands lines memory₀ packets count lost i kind a b at n k station t own pair linked active number class cut first second edge up links losses u left scope other sent more total here there mine theirs stop turns v₀ memory v = turns - v
 
 -- The events so far.
 abbrev Inv-loop : tie.InvT-loop
@@ -124,52 +127,55 @@ abbrev reading : Of tie.After-other → Of tie.At-loop3
 reading c = c .before .before .before .before .before
 
 abbrev cut-tests : Of tie.After-copies2 → Of tie.After-class-of
-cut-tests c = c .before .before .before .before .before .before .before .before .before .before .before .before .before .before .before .before .before
+cut-tests c = c .before .before .before .before .before .before .before .before .before .before .before .before .before .before .before
 
 abbrev cut-passed : Of tie.After-copies2 → Of tie.Else2
-cut-passed c = c .before .before .before .before .before .before .before .before .before .before .before .before .before .before .before .before
+cut-passed c = c .before .before .before .before .before .before .before .before .before .before .before .before .before .before
 
 abbrev cut-at : Of tie.After-copies2 → Of tie.After-cut-of
-cut-at c = c .before .before .before .before .before .before .before .before .before .before .before .before
+cut-at c = c .before .before .before .before .before .before .before .before .before .before
 
 abbrev cut-arm : Of tie.After-copies2 → Of tie.Then6
-cut-arm c = c .before .before .before .before .before .before .before .before .before .before .before .before .before
+cut-arm c = c .before .before .before .before .before .before .before .before .before .before .before
 
 abbrev cut-rows-read : Of tie.After-copies2 → Of tie.At-loop3
-cut-rows-read c = c .before .before .before .before .before .before .before .before
+cut-rows-read c = c .before .before .before .before .before .before
 
 abbrev cut-link : Of tie.After-copies2 → Of tie.After-pair-place2
-cut-link c = c .before .before .before .before .before .before .before .before .before .before .before
+cut-link c = c .before .before .before .before .before .before .before .before .before
 
 abbrev cut-stays : Of tie.After-copies2 → Of tie.After-left-of
-cut-stays c = c .before .before .before .before .before .before
+cut-stays c = c .before .before .before .before
 
-abbrev cut-error : Of tie.After-copies2 → Of tie.After-error
-cut-error c = c .before .before .before .before .before
+abbrev cut-counted : Of tie.After-sending-refusal → Of tie.After-copies2
+cut-counted c = c .before .before .before
+
+abbrev cut-asked : Of tie.After-line5 → Of tie.After-sending-refusal
+cut-asked c = c .before .before .before .before .before .before .before .before .before .before
 
 abbrev cuts : Of tie.After-place6 → Of tie.After-copies2
-cuts c = c .before .before .before .before .before .before .before
+cuts c = c .before .before .before .before .before .before .before .before .before
 
 abbrev all-cut : Of tie.After-loop4 → Of tie.After-copies2
-all-cut c = c .before .before .before .before .before
+all-cut c = c .before .before .before .before .before .before .before
 
 abbrev decided : Of tie.After-line5 → Of tie.After-copies2
-decided c = c .before .before .before .before .before .before .before
+decided c = c .before .before .before .before .before .before .before .before .before .before .before .before .before
 
 abbrev cut-has-room : Of tie.After-line5 → Of tie.Else7
-cut-has-room c = c .before .before .before .before .before
+cut-has-room c = c .before .before .before .before .before .before .before .before .before
 
 abbrev held-tests : Of tie.After-label-of → Of tie.After-class-of
-held-tests c = c .before .before .before .before .before .before .before .before .before .before .before .before .before .before
+held-tests c = c .before .before .before .before .before .before .before .before .before .before .before .before .before .before .before
 
 abbrev held-passed : Of tie.After-label-of → Of tie.Else2
-held-passed c = c .before .before .before .before .before .before .before .before .before .before .before .before .before
+held-passed c = c .before .before .before .before .before .before .before .before .before .before .before .before .before .before
 
 abbrev held-at : Of tie.After-label-of → Of tie.After-place8
-held-at c = c .before .before .before .before .before .before .before .before
+held-at c = c .before .before .before .before .before .before .before .before .before
 
 abbrev change-held : Of tie.After-copies3 → Of tie.After-label-of
-change-held c = c .before .before .before .before
+change-held c = c .before .before .before
 
 abbrev change-cells : Of tie.After-copies3 → Of tie.After-place8
 change-cells c = c .before .before .before .before .before .before .before .before .before .before .before .before
@@ -178,10 +184,13 @@ abbrev change-tests : Of tie.After-copies3 → Of tie.After-class-of
 change-tests c = c .before .before .before .before .before .before .before .before .before .before .before .before .before .before .before .before .before .before
 
 abbrev chosen : Of tie.After-line7 → Of tie.After-copies3
-chosen c = c .before .before .before .before .before .before .before .before .before
+chosen c = c .before .before .before .before .before .before .before .before .before .before .before
+
+abbrev change-counted : Of tie.After-sending-refusal2 → Of tie.After-copies3
+change-counted c = c .before .before
 
 abbrev has-room : Of tie.After-line7 → Of tie.Else9
-has-room c = c .before .before .before .before .before .before .before
+has-room c = c .before .before .before .before .before .before .before .before
 
 -- The memory before a turn, which is in range.
 abbrev memory : Of tie.At-loop → Memory
@@ -261,7 +270,7 @@ cell : (c : Of tie.After-place) → c .place .result < 256
 cell c = omega (arith, c .place .ensures, inside (looked-at (c .before .before .before)))
 
 abbrev shrink : Row → ℕ → Row
-shrink row count = record { labels = row .labels; stations = row .stations; count = count }
+shrink row count = record { labels = row .labels; serials = row .serials; stations = row .stations; count = count }
 
 shrunk : (c : Of tie.After-line2) → let row = getD (turn (light-tests c) .loop .memory .rows) (c .before .before .before .place .result) zeroRow in
     shrink row (c .before .expired .result) ≡ shrink row (if eqb (given (light-tests c) .next-event .result .kind) 5 then 0 else row .count)
@@ -355,7 +364,7 @@ links c = let up = turn (cut-tests c) .loop .memory .links in let at = cut-link 
 -- What is known where all that Down or an error does is decided.
 pieces : (c : Of tie.After-copies2) → let e = given (cut-tests c) .next-event .result in let t = turn (cut-tests c) .loop in
     Cutting (t .memory) (e .kind) (e .a) (e .b) (getD (t .packets) (e .a % 128) zeroPacket) (cut-at c .cut-of .result) (cut-rows-read c .loop3 .losses) (links c)
-    (c .before .before .before .error-scope .result) (c .before .before .error-scope2 .result) (cut-error c .error .result) (c .before .before .before .before .error2 .result)
+    (c .before .before .before .error-scope .result) (c .before .before .error-scope2 .result) (c .before .copies .result) (c .copies2 .result)
 pieces c =
     let rows = turn (cut-tests c) .loop .memory .rows in
     let last : cut-rows-read c .loop3 .u ≡ turn (cut-tests c) .loop .memory .n = omega (arith, cut-rows-read c .loop3 .inv .0, cut-stays c .before .loop3-test) in
@@ -365,10 +374,10 @@ pieces c =
       error-cuts = cut-at c .cut-of .ensures .1;
       lost-is = subst (λ (u : ℕ). Lost (cut-at c .cut-of .result) (map rowOf rows) u (cut-rows-read c .loop3 .losses)) last (cut-rows-read c .loop3 .inv .1);
       links-are = let up = turn (cut-tests c) .loop .memory .links in ap (λ (x : ℕ). set up x (getD up x false && not (eqb (given (cut-tests c) .next-event .result .kind) 2))) (cut-link c .pair-place2 .ensures);
-      first-is = cut-error c .error .ensures;
       first-sends = c .before .before .before .error-scope .ensures;
-      second-is = c .before .before .before .before .error2 .ensures;
+      first-count = c .before .copies .ensures;
       second-sends = c .before .before .error-scope2 .ensures;
+      second-count = c .copies2 .ensures;
     }
 
 -- Few packets are sent, and few stay.
@@ -379,16 +388,17 @@ few c =
     let now = turn (cut-tests c) .loop in
     let cut = cut-at c .cut-of .result in (
       omega (arith, cut-stays c .left-of .ensures, rest-few (e .kind) (now .packets) (now .count) (e .a % 128) (cut .first) (cut .second) (there (cut-arm c)), k .air-count),
-      rw (c .before .copies .ensures) (sent-few _ _ _ _ _ (k .high)),
-      rw (c .copies2 .ensures) (sent-few _ _ _ _ _ (k .high)),
+      rw (c .before .copies .ensures zeroPacket) (sent-few _ _ _ zeroPacket _ (k .high)),
+      rw (c .copies2 .ensures zeroPacket) (sent-few _ _ _ zeroPacket _ (k .high)),
     )
 
--- There would be too many packets, or there is room.
-over : (c : Of tie.Then7) → airLimit < cut-stays (c .before .before) .left-of .result + (c .before .before .before .copies .result + c .before .before .copies2 .result)
-over c = ltb-true _ _ (sym (c .before .full .ensures) ∙ c .if7 .taken)
+-- Where neither 13 nor 7 is given, the two have serial numbers left, and there is room.
+cut-numbers : (c : Of tie.Else7) → let at = cut-counted (c .before) in let memory = turn (cut-tests at) .loop .memory in let cut = cut-at at .cut-of .result in
+    (0 < at .before .copies .result → getD (memory .serials) (cut .first) 0 < maxU64) × (0 < at .copies2 .result → getD (memory .serials) (cut .second) 0 < maxU64)
+cut-numbers c = number-left _ _ _ _ _ _ (c .before .sending-refusal .ensures) (c .if7 .left)
 
-fits : (c : Of tie.Else7) → cut-stays (c .before .before) .left-of .result + (c .before .before .before .copies .result + c .before .before .copies2 .result) ≤ airLimit
-fits c = ltb-false _ _ (sym (c .before .full .ensures) ∙ c .if7 .left)
+fits : (c : Of tie.Else7) → let at = cut-counted (c .before) in cut-stays at .left-of .result + at .before .copies .result + at .copies2 .result ≤ airLimit
+fits c = air-within _ _ _ _ _ _ (c .before .sending-refusal .ensures) (c .if7 .left)
 
 -- The places of a turn of the cut.
 turned : (removed : Bool) (n : ℕ) → (if removed then n else 0) ≤ n
@@ -433,7 +443,7 @@ module _ (c : Of tie.After-other2) where
 
 -- The rows after the cut.
 cut-rows : (c : Of tie.After-loop4) → let m = turn (cut-tests (all-cut c)) .loop .memory in let cut = cut-at (all-cut c) .cut-of .result in
-    map rowOf (c .before .loop4 .memory .rows) ≡ takeOut (bit (cut .others)) (names (cut .first)) (cut .second) (m .n) (takeOut (bit (cut .mask)) (names (cut .second)) (cut .first) (m .n) (map rowOf (m .rows)))
+    map rowOf (c .before .loop4 .memory .rows) ≡ takeOut (bit (cut .others)) (leavesBy cut (cut .first)) (cut .second) (m .n) (takeOut (bit (cut .mask)) (leavesBy cut (cut .second)) (cut .first) (m .n) (map rowOf (m .rows)))
 cut-rows c =
     let last : c .before .loop4 .v ≡ c .before .before .turns-of .result = omega (arith, c .before .loop4 .inv .0, c .loop4-test) in
     cut-all (ends (cut-at (all-cut c)) .2) (pieces (all-cut c) .lost-is) (last ∙ c .before .before .turns-of .ensures) (c .before .loop4 .inv .2)
@@ -444,18 +454,38 @@ module _ (c : Of tie.After-line5) (packets : List Packet) where
   here-cut = decided c
 
   abbrev rows-cut : Of tie.After-loop4
-  rows-cut = c .before .before
+  rows-cut = c .before .before .before .before .before .before
+
+  abbrev second-error : Of tie.After-error2
+  second-error = c .before .before
+
+  abbrev first-error : Of tie.After-error
+  first-error = second-error .before
+
+  abbrev first-number : Of tie.After-count-on
+  first-number = first-error .before .before
+
+  abbrev second-number : Of tie.After-count-on2
+  second-number = first-error .before
+
+  abbrev serials-cut : List ℕ
+  serials-cut = counted-serials (tested (cut-tests here-cut)) (cut-passed here-cut .if2 .left) (pieces here-cut) (rows-cut .before .loop4 .memory .serials) (first-number .count-on .result) (second-number .count-on2 .result)
 
   abbrev Cuts : Type 0
-  Cuts = CutMoved (tested (cut-tests here-cut)) (cut-passed here-cut .if2 .left) (pieces here-cut) (cut-stays here-cut .left-of .ensures) (here-cut .before .copies .ensures) (here-cut .copies2 .ensures) packets
+  Cuts = CutMoved (tested (cut-tests here-cut)) (cut-passed here-cut .if2 .left) (pieces here-cut) (cut-stays here-cut .left-of .ensures) (cut-asked c .sending-refusal .ensures)
+      (first-number .count-on .result) (second-number .count-on2 .result) (first-number .count-on .ensures) (second-number .count-on2 .ensures)
+      (first-error .error .result) (second-error .error2 .result) (first-error .error .ensures) (second-error .error2 .ensures) packets
 
   cut-ended : length packets ≡ airLimit → Cuts
-      → Ended (cut-tests here-cut) (c .line5 .result) (with-links (rows-cut .before .loop4 .memory) (links here-cut)) packets (cut-stays here-cut .left-of .result + here-cut .before .copies .result + here-cut .copies2 .result)
+      → Ended (cut-tests here-cut) (c .line5 .result) (with-links (rows-cut .before .loop4 .memory) (links here-cut) serials-cut) packets
+      (cut-stays here-cut .left-of .result + here-cut .before .copies .result + here-cut .copies2 .result)
   cut-ended long moved =
       ended (cut-tests here-cut) (c .line5 .ensures)
-      (cut-shape (tested (cut-tests here-cut)) (cut-passed here-cut .if2 .left) (pieces here-cut) _ (rows-cut .before .loop4 .inv .1) (cut-rows rows-cut) long)
-      (cut-happens (tested (cut-tests here-cut)) (cut-passed here-cut .if2 .left) (pieces here-cut) (cut-stays here-cut .left-of .ensures) (here-cut .before .copies .ensures) (here-cut .copies2 .ensures) _
-      (rows-cut .before .loop4 .inv .1) (cut-rows rows-cut) packets moved (fits (cut-has-room c)) (c .before .cut-answer .ensures))
+      (cut-shape (tested (cut-tests here-cut)) (cut-passed here-cut .if2 .left) (pieces here-cut) _ (rows-cut .before .loop4 .inv .1) (cut-rows rows-cut) _ _ long)
+      (cut-happens (tested (cut-tests here-cut)) (cut-passed here-cut .if2 .left) (pieces here-cut) (cut-stays here-cut .left-of .ensures) (cut-asked c .sending-refusal .ensures)
+      (first-number .count-on .result) (second-number .count-on2 .result) (first-number .count-on .ensures) (second-number .count-on2 .ensures)
+      (first-error .error .result) (second-error .error2 .result) (first-error .error .ensures) (second-error .error2 .ensures)
+      (cut-has-room c .if7 .left) _ (rows-cut .before .loop4 .inv .1) (cut-rows rows-cut) packets moved (c .before .cut-answer .ensures))
 
 -- Solicit, Lose, Duplicate, and a request or a reply delivered: where they look, and what stands there.
 spots : (c : Of tie.After-place8) → (c .before .place7 .result < 256) × (c .place8 .result < 256)
@@ -491,15 +521,18 @@ stay-few false count = omega arith
 
 small : (c : Of tie.After-copies3) → (c .before .stay .result ≤ 128) × (c .copies3 .result ≤ 16)
 small c =
-    let k = known (turn (change-tests c)) in
-    (omega (arith, c .before .stay .ensures, stay-few (c .before .before .before .change-of .result .drops) (turn (change-tests c) .loop .count), k .air-count), rw (c .copies3 .ensures) (sent-few _ _ _ _ _ (k .high)))
+    let k = known (turn (change-tests c)) in (
+      omega (arith, c .before .stay .ensures, stay-few (c .before .before .change-of .result .drops) (turn (change-tests c) .loop .count), k .air-count),
+      rw (c .copies3 .ensures zeroPacket) (sent-few _ _ _ zeroPacket _ (k .high)),
+    )
 
--- There would be too many packets, or there is room.
-over-two : (c : Of tie.Then9) → airLimit < c .before .before .before .stay .result + c .before .before .copies3 .result
-over-two c = ltb-true _ _ (sym (c .before .full2 .ensures) ∙ c .if9 .taken)
+-- Where neither 13 nor 7 is given, the station has a serial number left, and there is room.
+change-number : (c : Of tie.Else9) → let at = change-counted (c .before) in
+    0 < c .before .before .told .result → getD (turn (change-tests at) .loop .memory .serials) (looked-at (change-tests at) .spot-of .result .station) 0 < maxU64
+change-number c = number-left _ _ _ _ _ _ (c .before .sending-refusal2 .ensures) (c .if9 .left) .0
 
-fits-two : (c : Of tie.Else9) → c .before .before .before .stay .result + c .before .before .copies3 .result ≤ airLimit
-fits-two c = ltb-false _ _ (sym (c .before .full2 .ensures) ∙ c .if9 .left)
+fits-two : (c : Of tie.Else9) → let at = change-counted (c .before) in at .before .stay .result + at .copies3 .result ≤ airLimit
+fits-two c = air-within _ _ _ _ _ _ (c .before .sending-refusal2 .ensures) (c .if9 .left)
 
 -- They end with the packets that `exchange` or `transmit` gave.
 module _ (c : Of tie.After-line7) (packets : List Packet) where
@@ -507,19 +540,28 @@ module _ (c : Of tie.After-line7) (packets : List Packet) where
   here-chosen = chosen c
 
   abbrev choice : Of tie.After-change-of
-  choice = here-chosen .before .before .before
+  choice = here-chosen .before .before
+
+  abbrev stopped : Of tie.After-sending-refusal2
+  stopped = has-room c .before
+
+  abbrev number-on : Of tie.After-count-on3
+  number-on = c .before .before
 
   abbrev Changes : Type 0
-  Changes = ChangeMoved (looks (change-held here-chosen)) (choice .change-of .ensures) (here-chosen .before .stay .ensures) (here-chosen .copies3 .ensures) packets
+  Changes = ChangeMoved (looks (change-held here-chosen)) (choice .change-of .ensures) (here-chosen .before .stay .ensures) (here-chosen .copies3 .ensures) (stopped .before .told .ensures)
+      (stopped .sending-refusal2 .ensures) (number-on .count-on3 .result) (number-on .count-on3 .ensures)
+      (c .before .outgoing .result) (c .before .outgoing .ensures .0) (c .before .outgoing .ensures .1) packets
 
   abbrev after : Memory
-  after = changed (looks (change-held here-chosen)) (choice .change-of .ensures) (turn (change-tests here-chosen) .loop .memory .air)
+  after = changed (looks (change-held here-chosen)) (choice .change-of .ensures) (number-on .count-on3 .result) (turn (change-tests here-chosen) .loop .memory .air)
 
   change-ended : length packets ≡ airLimit → Changes → Ended (change-tests here-chosen) (c .line7 .result) after packets (here-chosen .before .stay .result + here-chosen .copies3 .result)
   change-ended long moved =
-      ended (change-tests here-chosen) (c .line7 .ensures) (changed-shape (looks (change-held here-chosen)) (choice .change-of .ensures) long)
-      (change-happens (looks (change-held here-chosen)) (choice .change-of .ensures) (here-chosen .before .stay .ensures) (here-chosen .copies3 .ensures) (c .before .told .ensures) packets moved
-      (fits-two (has-room c)))
+      ended (change-tests here-chosen) (c .line7 .ensures) (changed-shape (looks (change-held here-chosen)) (choice .change-of .ensures) (number-on .count-on3 .result) long)
+      (change-happens (looks (change-held here-chosen)) (choice .change-of .ensures) (here-chosen .before .stay .ensures) (here-chosen .copies3 .ensures) (stopped .before .told .ensures)
+      (stopped .sending-refusal2 .ensures) (number-on .count-on3 .result) (number-on .count-on3 .ensures)
+      (c .before .outgoing .result) (c .before .outgoing .ensures .0) (c .before .outgoing .ensures .1) (has-room c .if9 .left) packets moved)
 
 -- Before the first event, and the tests of one.
 loop-holds : Of tie.Need-loop-holds
@@ -754,12 +796,6 @@ loop3-again c =
 left-of-requires : Of tie.Need-left-of-requires
 left-of-requires c κs = (known (turn (loss-tests (c .before))) .air-count, λ e. there (loss-of (c .before) .before) e)
 
-error-requires : Of tie.Need-error-requires
-error-requires c κs = search needs
-
-error-requires-2 : Of tie.Need-error-requires-2
-error-requires-2 c κs = search needs
-
 error-scope-requires : Of tie.Need-error-scope-requires
 error-scope-requires c κs = search needs
 
@@ -767,40 +803,62 @@ error-scope-requires-2 : Of tie.Need-error-scope-requires-2
 error-scope-requires-2 c κs = search needs
 
 copies-requires : Of tie.Need-copies-requires
-copies-requires c κs = let k = both (c .before .before .before .before .before .before) in (k .0, k .1)
+copies-requires c κs = let k = both (c .before .before .before .before) in (k .0, k .1)
 
 copies-requires-2 : Of tie.Need-copies-requires-2
-copies-requires-2 c κs = let k = both (c .before .before .before .before .before .before .before) in (k .0, k .2)
+copies-requires-2 c κs = let k = both (c .before .before .before .before .before) in (k .0, k .2)
 
-add-full : Of tie.Need-add-full
-add-full c = record { fits = omega (arith, few c) }
+add-total : Of tie.Need-add-total
+add-total c = record { fits = omega (arith, few c) }
 
-full-requires : Of tie.Need-full-requires
-full-requires c κs = omega (arith, few c)
+add-total-2 : Of tie.Need-add-total-2
+add-total-2 c = record { fits = omega (arith, few c) }
+
+cast-here : Of tie.Need-cast-here
+cast-here c = search needs
+
+cast-there : Of tie.Need-cast-there
+cast-there c = search needs
+
+mul-mine : Of tie.Need-mul-mine
+mul-mine c = record { fits = omega (arith, both (cut-rows-read c)) }
+
+element-copy-out-mine : Of tie.Need-element-copy-out-mine
+element-copy-out-mine c = both (cut-rows-read c) .1
+
+mul-theirs : Of tie.Need-mul-theirs
+mul-theirs c = record { fits = omega (arith, both (cut-rows-read (c .before))) }
+
+element-copy-out-theirs : Of tie.Need-element-copy-out-theirs
+element-copy-out-theirs c = both (cut-rows-read (c .before)) .2
+
+sending-refusal-requires : Of tie.Need-sending-refusal-requires
+sending-refusal-requires c κs = search needs
 
 line-requires-4 : Of tie.Need-line-requires-4
 line-requires-4 c κs = search needs
 
 mul-lines-4 : Of tie.Need-mul-lines-4
-mul-lines-4 c = record { fits = omega (arith, counted (cut-tests (c .before .before .before))) }
+mul-lines-4 c = record { fits = omega (arith, counted (cut-tests (cut-counted (c .before .before)))) }
 
 slice-write-lines-4 : Of tie.Need-slice-write-lines-4
-slice-write-lines-4 c = room (lined-up (cut-tests (c .before .before .before)))
+slice-write-lines-4 c = room (lined-up (cut-tests (cut-counted (c .before .before))))
 
 loop-less-4 : Of tie.Need-loop-less-4
-loop-less-4 c = omega (arith, counted (cut-tests (c .before .before .before)))
+loop-less-4 c = omega (arith, counted (cut-tests (cut-counted (c .before .before))))
 
 loop-again-4 : Of tie.Need-loop-again-4
 loop-again-4 c =
-    let here = c .before .before .before in
+    let asked = c .before .before in
+    let here = cut-counted asked in
     ended (cut-tests here) (c .line4 .ensures) (as-before (cut-tests here))
-    (cut-7 (tested (cut-tests here)) (cut-passed here .if2 .left) (pieces here) (cut-stays here .left-of .ensures) (here .before .copies .ensures) (here .copies2 .ensures) (over (c .before)))
+    (cut-stopped (tested (cut-tests here)) (cut-passed here .if2 .left) (pieces here) (cut-stays here .left-of .ensures) (asked .sending-refusal .ensures) (c .before .if7 .taken))
 
 turns-of-requires : Of tie.Need-turns-of-requires
 turns-of-requires c κs = search needs
 
 loop4-holds : Of tie.Need-loop4-holds
-loop4-holds c = (omega arith, refl, cut-none (ends (cut-at (c .before .before .before)) .2))
+loop4-holds c = (omega arith, refl, cut-none (ends (cut-at (cut-counted (c .before .before))) .2))
 
 place-requires-5 : Of tie.Need-place-requires-5
 place-requires-5 c κs = search needs
@@ -828,17 +886,17 @@ cut-row-requires-2 c κs =
     let at = c .before .before .before in
     (named-once (c .before) .1, omega (arith, placed at, few-stations (cut-tests (cuts at))))
 
-mul-mine : Of tie.Need-mul-mine
-mul-mine c = record { fits = omega (arith, placed (c .before .before .before .before)) }
+mul-rest : Of tie.Need-mul-rest
+mul-rest c = record { fits = omega (arith, placed (c .before .before .before .before)) }
 
-element-set-from-mine : Of tie.Need-element-set-from-mine
-element-set-from-mine c = placed (c .before .before .before .before) .1
+element-set-from-rest : Of tie.Need-element-set-from-rest
+element-set-from-rest c = placed (c .before .before .before .before) .1
 
-mul-theirs : Of tie.Need-mul-theirs
-mul-theirs c = record { fits = omega (arith, placed (c .before .before .before .before)) }
+mul-others : Of tie.Need-mul-others
+mul-others c = record { fits = omega (arith, placed (c .before .before .before .before)) }
 
-element-set-from-theirs : Of tie.Need-element-set-from-theirs
-element-set-from-theirs c = placed (c .before .before .before .before) .2
+element-set-from-others : Of tie.Need-element-set-from-others
+element-set-from-others c = placed (c .before .before .before .before) .2
 
 add-v : Of tie.Need-add-v
 add-v c = record { fits = omega (arith, placed (c .before .before .before .before), few-stations (cut-tests (cuts (c .before .before .before .before)))) }
@@ -857,17 +915,35 @@ loop4-again c =
           (cut-more (ends (cut-at (cuts at)) .2) small (before .inv .2) _ _ (rw (same-rows (c .before .before) .0) at (c .before .cut-row .ensures)) (rw (same-rows (c .before .before) .1) at (c .cut-row2 .ensures))),
     )
 
-add-total : Of tie.Need-add-total
-add-total c = record { fits = omega (arith, few (all-cut c)) }
+count-on-requires : Of tie.Need-count-on-requires
+count-on-requires c κs = cut-numbers (c .before .before .before) .0
 
-add-total-2 : Of tie.Need-add-total-2
-add-total-2 c = record { fits = omega (arith, few (all-cut c)) }
+count-on-requires-2 : Of tie.Need-count-on-requires-2
+count-on-requires-2 c κs = cut-numbers (c .before .before .before .before) .1
+
+mul-memory : Of tie.Need-mul-memory
+mul-memory c = record { fits = omega (arith, both (cut-rows-read (all-cut (c .before .before)))) }
+
+element-write-memory-3 : Of tie.Need-element-write-memory-3
+element-write-memory-3 c = both (cut-rows-read (all-cut (c .before .before))) .1
+
+mul-memory-2 : Of tie.Need-mul-memory-2
+mul-memory-2 c = record { fits = omega (arith, both (cut-rows-read (all-cut (c .before .before)))) }
+
+element-write-memory-4 : Of tie.Need-element-write-memory-4
+element-write-memory-4 c = both (cut-rows-read (all-cut (c .before .before))) .2
+
+error-requires : Of tie.Need-error-requires
+error-requires c κs = search needs
+
+error-requires-2 : Of tie.Need-error-requires-2
+error-requires-2 c κs = search needs
 
 cut-answer-requires : Of tie.Need-cut-answer-requires
 cut-answer-requires c κs = search needs
 
 add-line : Of tie.Need-add-line
-add-line c = record { fits = omega (arith, few (all-cut (c .before))) }
+add-line c = record { fits = omega (arith, few (all-cut (c .before .before .before .before .before))) }
 
 line-requires-5 : Of tie.Need-line-requires-5
 line-requires-5 c κs = search needs
@@ -883,7 +959,7 @@ parted-requires c κs =
     let here = decided (c .before) in
     let k = both (cut-rows-read here) in
     let rest = cut-stays here .left-of .ensures ∙ ap length (rest-down _ _ _ _ _ _ (c .if8 .taken)) in
-    ((k .0, k .1, k .2, known (turn (cut-tests here)) .air-count, rest), omega (arith, fits (cut-has-room (c .before)), rest, here .before .copies .ensures, here .copies2 .ensures))
+    ((k .0, k .1, k .2, known (turn (cut-tests here)) .air-count, rest), omega (arith, fits (cut-has-room (c .before)), rest, here .before .copies .ensures (c .before .before .before .before .error .result), here .copies2 .ensures (c .before .before .before .error2 .result)))
 
 exchange-requires : Of tie.Need-exchange-requires
 exchange-requires c κs =
@@ -891,7 +967,7 @@ exchange-requires c κs =
     let k = both (cut-rows-read here) in
     let at = there (cut-arm here) (c .if8 .left) in
     let last = cut-stays here .left-of .ensures ∙ rest-one-less _ _ _ _ _ _ (c .if8 .left) at in
-    ((k .0, k .1, omega (arith, last, at), omega (arith, last, at, known (turn (cut-tests here)) .air-count)), omega (arith, fits (cut-has-room (c .before)), here .before .copies .ensures))
+    ((k .0, k .1, omega (arith, last, at), omega (arith, last, at, known (turn (cut-tests here)) .air-count)), omega (arith, fits (cut-has-room (c .before)), here .before .copies .ensures (c .before .before .before .before .error .result)))
 
 loop-less-5 : Of tie.Need-loop-less-5
 loop-less-5 c = omega (arith, counted (cut-tests (decided (c .before .before))))
@@ -945,6 +1021,12 @@ element-copy-out-kept c = spots (c .before .before .before .before) .1
 element-copy-out-sought : Of tie.Need-element-copy-out-sought
 element-copy-out-sought c = inside (looked-at (c .before .before .before .before .before .before .before .before .before .before .before)) .0
 
+mul-serial : Of tie.Need-mul-serial
+mul-serial c = record { fits = omega (arith, inside (looked-at (c .before .before .before .before .before .before .before .before .before .before .before .before .before))) }
+
+element-copy-out-serial : Of tie.Need-element-copy-out-serial
+element-copy-out-serial c = inside (looked-at (c .before .before .before .before .before .before .before .before .before .before .before .before .before)) .0
+
 label-of-requires : Of tie.Need-label-of-requires
 label-of-requires c κs = search needs
 
@@ -952,79 +1034,97 @@ change-of-requires : Of tie.Need-change-of-requires
 change-of-requires c κs = (λ e. unused (looks c) e, λ e. arrived (looks c) e)
 
 stay-requires : Of tie.Need-stay-requires
-stay-requires c κs = λ d. omega (arith, gone (c .before) d)
+stay-requires c κs = λ d. omega (arith, gone c d)
 
 copies-requires-3 : Of tie.Need-copies-requires-3
-copies-requires-3 c κs = (few-stations (held-tests (c .before .before .before)), inside (looked-at (held-tests (c .before .before .before))) .0)
+copies-requires-3 c κs = (few-stations (held-tests (c .before .before)), inside (looked-at (held-tests (c .before .before))) .0)
 
-full-requires-2 : Of tie.Need-full-requires-2
-full-requires-2 c κs = omega (arith, small c)
+told-requires : Of tie.Need-told-requires
+told-requires c κs = search needs
+
+add-total-3 : Of tie.Need-add-total-3
+add-total-3 c = record { fits = omega (arith, small (c .before)) }
+
+sending-refusal-requires-2 : Of tie.Need-sending-refusal-requires-2
+sending-refusal-requires-2 c κs = search needs
 
 line-requires-6 : Of tie.Need-line-requires-6
 line-requires-6 c κs = search needs
 
 mul-lines-6 : Of tie.Need-mul-lines-6
-mul-lines-6 c = record { fits = omega (arith, counted (change-tests (c .before .before .before))) }
+mul-lines-6 c = record { fits = omega (arith, counted (change-tests (change-counted (c .before .before)))) }
 
 slice-write-lines-6 : Of tie.Need-slice-write-lines-6
-slice-write-lines-6 c = room (lined-up (change-tests (c .before .before .before)))
+slice-write-lines-6 c = room (lined-up (change-tests (change-counted (c .before .before))))
 
 loop-less-7 : Of tie.Need-loop-less-7
-loop-less-7 c = omega (arith, counted (change-tests (c .before .before .before)))
+loop-less-7 c = omega (arith, counted (change-tests (change-counted (c .before .before))))
 
 loop-again-7 : Of tie.Need-loop-again-7
 loop-again-7 c =
-    let here = c .before .before .before in
+    let asked = c .before .before in
+    let here = change-counted asked in
     ended (change-tests here) (c .line6 .ensures) (as-before (change-tests here))
-    (change-7 (looks (change-held here)) (here .before .before .before .change-of .ensures) (here .before .stay .ensures) (here .copies3 .ensures) (over-two (c .before)))
+    (change-stopped (looks (change-held here)) (here .before .before .change-of .ensures) (here .before .stay .ensures) (here .copies3 .ensures) (asked .before .told .ensures)
+    (asked .sending-refusal2 .ensures) (c .before .if9 .taken))
 
-mul-memory : Of tie.Need-mul-memory
-mul-memory c = record { fits = omega (arith, spots (change-cells (c .before .before .before .before .before .before .before))) }
-
-element-write-memory-3 : Of tie.Need-element-write-memory-3
-element-write-memory-3 c = spots (change-cells (c .before .before .before .before .before .before .before)) .0
-
-mul-memory-2 : Of tie.Need-mul-memory-2
-mul-memory-2 c = record { fits = omega (arith, spots (change-cells (c .before .before .before .before .before .before .before))) }
-
-element-write-memory-4 : Of tie.Need-element-write-memory-4
-element-write-memory-4 c = spots (change-cells (c .before .before .before .before .before .before .before)) .0
+-- Where a change is written: at its cell, its slot and its station.
+abbrev written : Of tie.After-asked → Of tie.After-copies3
+written c = c .before .before .before .before .before .before .before .before
 
 mul-memory-3 : Of tie.Need-mul-memory-3
-mul-memory-3 c = record { fits = omega (arith, spots (change-cells (c .before .before .before .before .before .before .before))) }
+mul-memory-3 c = record { fits = omega (arith, spots (change-cells (written c))) }
 
 element-write-memory-5 : Of tie.Need-element-write-memory-5
-element-write-memory-5 c = spots (change-cells (c .before .before .before .before .before .before .before)) .0
+element-write-memory-5 c = spots (change-cells (written c)) .0
 
-mul-successors : Of tie.Need-mul-successors
-mul-successors c = record { fits = omega (arith, spots (change-cells (c .before .before .before .before .before .before .before))) }
-
-element-set-from-successors : Of tie.Need-element-set-from-successors
-element-set-from-successors c = spots (change-cells (c .before .before .before .before .before .before .before)) .0
-
-mul-noted : Of tie.Need-mul-noted
-mul-noted c = record { fits = omega (arith, spots (change-cells (c .before .before .before .before .before .before .before))) }
-
-element-set-from-noted : Of tie.Need-element-set-from-noted
-element-set-from-noted c = spots (change-cells (c .before .before .before .before .before .before .before)) .1
-
-mul-asked : Of tie.Need-mul-asked
-mul-asked c = record { fits = omega (arith, inside (looked-at (change-tests (c .before .before .before .before .before .before .before)))) }
-
-element-set-from-asked : Of tie.Need-element-set-from-asked
-element-set-from-asked c = inside (looked-at (change-tests (c .before .before .before .before .before .before .before))) .0
+mul-memory-4 : Of tie.Need-mul-memory-4
+mul-memory-4 c = record { fits = omega (arith, spots (change-cells (written c))) }
 
 element-write-memory-6 : Of tie.Need-element-write-memory-6
-element-write-memory-6 c = inside (looked-at (change-tests (c .before .before .before .before .before .before .before))) .0
+element-write-memory-6 c = spots (change-cells (written c)) .0
+
+mul-memory-5 : Of tie.Need-mul-memory-5
+mul-memory-5 c = record { fits = omega (arith, spots (change-cells (written c))) }
 
 element-write-memory-7 : Of tie.Need-element-write-memory-7
-element-write-memory-7 c = inside (looked-at (change-tests (c .before .before .before .before .before .before .before))) .0
+element-write-memory-7 c = spots (change-cells (written c)) .0
 
-add-count : Of tie.Need-add-count
-add-count c = record { fits = omega (arith, small (c .before .before .before .before .before .before .before)) }
+mul-successors : Of tie.Need-mul-successors
+mul-successors c = record { fits = omega (arith, spots (change-cells (written c))) }
 
-told-requires : Of tie.Need-told-requires
-told-requires c κs = search needs
+element-set-from-successors : Of tie.Need-element-set-from-successors
+element-set-from-successors c = spots (change-cells (written c)) .0
+
+mul-noted : Of tie.Need-mul-noted
+mul-noted c = record { fits = omega (arith, spots (change-cells (written c))) }
+
+element-set-from-noted : Of tie.Need-element-set-from-noted
+element-set-from-noted c = spots (change-cells (written c)) .1
+
+mul-asked : Of tie.Need-mul-asked
+mul-asked c = record { fits = omega (arith, inside (looked-at (change-tests (written c)))) }
+
+element-set-from-asked : Of tie.Need-element-set-from-asked
+element-set-from-asked c = inside (looked-at (change-tests (written c))) .0
+
+element-write-memory-8 : Of tie.Need-element-write-memory-8
+element-write-memory-8 c = inside (looked-at (change-tests (written c))) .0
+
+element-write-memory-9 : Of tie.Need-element-write-memory-9
+element-write-memory-9 c = inside (looked-at (change-tests (written c))) .0
+
+count-on-requires-3 : Of tie.Need-count-on-requires-3
+count-on-requires-3 c κs = change-number (c .before .before .before .before .before)
+
+mul-memory-6 : Of tie.Need-mul-memory-6
+mul-memory-6 c = record { fits = omega (arith, inside (looked-at (change-tests (written (c .before))))) }
+
+element-write-memory-10 : Of tie.Need-element-write-memory-10
+element-write-memory-10 c = inside (looked-at (change-tests (written (c .before)))) .0
+
+outgoing-requires : Of tie.Need-outgoing-requires
+outgoing-requires c κs = search needs
 
 line-requires-7 : Of tie.Need-line-requires-7
 line-requires-7 c κs = search needs
@@ -1041,9 +1141,9 @@ exchange-requires-2 c κs =
     let tests = change-tests here in
     let count = turn tests .loop .count in
     let last = here .before .stay .ensures ∙ ap (λ (drops : Bool). if drops then count - 1 else count) (c .if10 .taken) in
-    let at = gone (here .before .before .before) (c .if10 .taken) in (
+    let at = gone (here .before .before) (c .if10 .taken) in (
       (few-stations tests, inside (looked-at tests) .0, omega (arith, last, at), omega (arith, last, at, known (turn tests) .air-count)),
-      omega (arith, fits-two (has-room (c .before)), here .copies3 .ensures),
+      omega (arith, fits-two (has-room (c .before)), here .copies3 .ensures (c .before .before .outgoing .result)),
     )
 
 loop-less-8 : Of tie.Need-loop-less-8
@@ -1055,7 +1155,7 @@ loop-again-8 c = change-ended (c .before .before) _ (array-length (c .exchange2 
 transmit-requires : Of tie.Need-transmit-requires
 transmit-requires c κs =
     let here = chosen (c .before) in
-    ((few-stations (change-tests here), inside (looked-at (change-tests here)) .0), omega (arith, fits-two (has-room (c .before)), here .copies3 .ensures))
+    ((few-stations (change-tests here), inside (looked-at (change-tests here)) .0), omega (arith, fits-two (has-room (c .before)), here .copies3 .ensures (c .before .before .outgoing .result)))
 
 loop-less-9 : Of tie.Need-loop-less-9
 loop-less-9 c = omega (arith, counted (change-tests (chosen (c .before .before))))
@@ -1142,14 +1242,19 @@ run-spec =
     loop3-less
     loop3-again
     left-of-requires
-    error-requires
-    error-requires-2
     error-scope-requires
     error-scope-requires-2
     copies-requires
     copies-requires-2
-    add-full
-    full-requires
+    add-total
+    add-total-2
+    cast-here
+    cast-there
+    mul-mine
+    element-copy-out-mine
+    mul-theirs
+    element-copy-out-theirs
+    sending-refusal-requires
     line-requires-4
     mul-lines-4
     slice-write-lines-4
@@ -1165,15 +1270,21 @@ run-spec =
     element-copy-out-other-2
     cut-row-requires
     cut-row-requires-2
-    mul-mine
-    element-set-from-mine
-    mul-theirs
-    element-set-from-theirs
+    mul-rest
+    element-set-from-rest
+    mul-others
+    element-set-from-others
     add-v
     loop4-less
     loop4-again
-    add-total
-    add-total-2
+    count-on-requires
+    count-on-requires-2
+    mul-memory
+    element-write-memory-3
+    mul-memory-2
+    element-write-memory-4
+    error-requires
+    error-requires-2
     cut-answer-requires
     add-line
     line-requires-5
@@ -1198,32 +1309,38 @@ run-spec =
     mul-kept
     element-copy-out-kept
     element-copy-out-sought
+    mul-serial
+    element-copy-out-serial
     label-of-requires
     change-of-requires
     stay-requires
     copies-requires-3
-    full-requires-2
+    told-requires
+    add-total-3
+    sending-refusal-requires-2
     line-requires-6
     mul-lines-6
     slice-write-lines-6
     loop-less-7
     loop-again-7
-    mul-memory
-    element-write-memory-3
-    mul-memory-2
-    element-write-memory-4
     mul-memory-3
     element-write-memory-5
+    mul-memory-4
+    element-write-memory-6
+    mul-memory-5
+    element-write-memory-7
     mul-successors
     element-set-from-successors
     mul-noted
     element-set-from-noted
     mul-asked
     element-set-from-asked
-    element-write-memory-6
-    element-write-memory-7
-    add-count
-    told-requires
+    element-write-memory-8
+    element-write-memory-9
+    count-on-requires-3
+    mul-memory-6
+    element-write-memory-10
+    outgoing-requires
     line-requires-7
     mul-lines-7
     slice-write-lines-7
