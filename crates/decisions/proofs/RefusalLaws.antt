@@ -1,11 +1,11 @@
 -- The tests of each event, by what is gathered for them.
 use Prim.Native.Nat.{ℕ, suc, _≤_, _<_}
-use mathlib.Core.Path.{_≡_, refl, ap, _∙_}
+use mathlib.Core.Path.{_≡_, refl, sym, ap, _∙_}
 use mathlib.Core.Logic.{_≢_}
 use mathlib.Core.Bool.{Bool, true, false, not, _&&_, _||_, and-true, and-false, or-false}
 use lib.Dec.{ltb, leb, eqb}
 use native.Mathlib.Omega.{arith}
-use borrow.Author.Tests.{lt-ltb, ltb-true, ltb-false, leb-false, eqb-true, eqb-false, not-true, not-false}
+use borrow.Author.Tests.{lt-ltb, le-ltb, ltb-true, ltb-false, leb-false, eqb-true, eqb-false, not-true, not-false}
 use Rattle.base.specs.Choice.{if_then_else_}
 use Rattle.base.specs.Numbers.{maxU32, maxU64}
 use Rattle.base.specs.Results.{refused}
@@ -166,7 +166,25 @@ module _ (kind a b : ℕ) (event : notEvent kind b ≡ false) where
         go true p = rw (event-trace kind a b event (eqb-true kind 9 p), e) (trace-tests seen)
         go false p = let nine = eqb-false kind 9 p in call-tests net nine (call-5 kind a b (five h k nine)) e (expire-tests seen)
 
--- 13 and 7.
+-- 13 and 7, each by its test.
+module _ (limit air first sent second more : ℕ) where
+  abbrev pub used : Bool
+  used = leb maxU64 first && ltb 0 sent || leb maxU64 second && ltb 0 more
+
+  pub refused-13 : used ≡ true → 13 ≡ sendingRefusal limit air first sent second more
+  unfolding sendingRefusal
+  refused-13 u = sym (rw u)
+
+  module _ (u : used ≡ false) where
+    pub refused-7 : limit < air → 7 ≡ sendingRefusal limit air first sent second more
+    unfolding sendingRefusal
+    refused-7 l = sym (rw (u, lt-ltb limit air l))
+
+    pub refused-not : air ≤ limit → 0 ≡ sendingRefusal limit air first sent second more
+    unfolding sendingRefusal
+    refused-not l = sym (rw (u, le-ltb limit air l))
+
+-- What they tell.
 module _ (limit air first sent second more : ℕ) {number : ℕ} (e : number ≡ sendingRefusal limit air first sent second more) where
   pub both-send : number ≡ (if leb maxU64 first && ltb 0 sent || leb maxU64 second && ltb 0 more then 13 else if ltb limit air then 7 else 0)
   unfolding sendingRefusal
@@ -178,13 +196,10 @@ module _ (limit air first sent second more : ℕ) {number : ℕ} (e : number ≡
 
   -- Where neither is given, a station that sends has a number left, and the packets are within the limit.
   module _ (zero : number ≡ 0) where
-    abbrev used : Bool
-    used = leb maxU64 first && ltb 0 sent || leb maxU64 second && ltb 0 more
-
-    unused : used ≡ false
-    unused = go used refl both-send
+    unused : used limit air first sent second more ≡ false
+    unused = go (used limit air first sent second more) refl both-send
       where
-        go : (x : Bool) → used ≡ x → number ≡ (if x then 13 else if ltb limit air then 7 else 0) → used ≡ false
+        go : (x : Bool) → used limit air first sent second more ≡ x → number ≡ (if x then 13 else if ltb limit air then 7 else 0) → used limit air first sent second more ≡ false
         go true p q = absurd (omega (arith, zero))
         go false p q = p
 

@@ -204,8 +204,8 @@ pub fn outgoing(kind: u8, p: Packet, serial: u64) -> Packet
     ensures own { λ r. ⌜ (kind ≡ 8 → r ≡ p) ⌝ }
     ensures numbered { λ r. ⌜ (kind ≢ 8 → r ≡ numbered p serial) ⌝ }
 {
-    if kind == 8 {
-        return p;
+    if kind != 8 {
+        return numbered(p, serial);
     }
-    numbered(p, serial)
+    p
 }

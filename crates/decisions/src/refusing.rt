@@ -21,14 +21,7 @@ fn used_up(serial: u64, sent: u8) -> bool
 
 // 13, then 7: the number that turns a call down after which so many packets are in the air, 0 if neither does. Two stations send; of each
 // its last serial number and how many packets it sends.
-pub fn sending_refusal(
-    limit: u8,
-    air: u8,
-    first: u64,
-    sent: u8,
-    second: u64,
-    more: u8,
-) -> u32
+pub fn sending_refusal(limit: u8, air: u8, first: u64, sent: u8, second: u64, more: u8) -> u32
     ensures { λ r. ⌜ r ≡ sendingRefusal limit air first sent second more ⌝ }
 {
     if used_up(first, sent) | used_up(second, more) {

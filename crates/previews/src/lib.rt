@@ -69,15 +69,7 @@ pub fn turned_down(number: u32) -> Preview
 
 // What is shown where so many packets are left and a station with this last serial number sends so many: 13 where it has none left, 7 where
 // the packets are too many, or all this.
-fn shown(
-    label: Label,
-    row: Row,
-    mask: u16,
-    answer: u32,
-    serial: u64,
-    left: u8,
-    sent: u8,
-) -> Preview
+fn shown(label: Label, row: Row, mask: u16, answer: u32, serial: u64, left: u8, sent: u8) -> Preview
     requires { ⌜ left + sent < 2 ^ 8 ⌝ }
     ensures { λ r. ⌜ previewOf r ≡ unlessStopped serial sent (left + sent) (shows answer sent label (rowOf row) mask) ⌝ }
 {
@@ -180,7 +172,15 @@ pub fn preview_of(seen: Gathered, k: u8) -> Preview
         let answer = cut_answer(6, losses.removed, mask);
         let scope = error_scope(mask);
         let sent = copies(scope, links, n, station);
-        return shown(label_of(0, 0, 0), empty_row(), mask, answer, serial, left, sent);
+        return shown(
+            label_of(0, 0, 0),
+            empty_row(),
+            mask,
+            answer,
+            serial,
+            left,
+            sent,
+        );
     }
     let held = seen.held;
     let last = seen.last;

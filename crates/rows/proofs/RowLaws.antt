@@ -28,7 +28,7 @@ module _ (row : Row) (k j : ℕ) where
   unfolding names entryOf
   names-other h = ap not (ne-eqb j _ (λ e. h (sym e)))
 
--- An entry written at the count is one more, if it is counted.
+-- An entry written at the count is one more, once it is counted.
 pub row-push : (row next : Row) (e : model.Successor) → Written row (row .count) e next → tabulate (row .count + 1) (entryOf next) ≡ rowOf row ++ (e ∷ [])
 unfolding rowOf
 row-push row next e w =

@@ -10,8 +10,9 @@ use Rattle.label.specs.Label.{Outcome, newLabel}
 use Rattle.model.specs.Memory as model
 use Rattle.model.specs.Memory.{Network, place, isActive, under, put, setLabels, setRows, setRecords, setActives, setActive}
 use Rattle.model.specs.Calls.{effect, replyTo, matches, cachedAt, adopt, settle, passesOn, passOn, onOutcome, onReply}
+use Rattle.rows.specs.declared.Successor.{Successor}
 use Rattle.rows.specs.declared.Row.{Row}
-use Rattle.rows.specs.View.{successor, rowOf}
+use Rattle.rows.specs.View.{successor, successorOf, rowOf}
 use Rattle.network.specs.declared.Packet.{Packet}
 use Rattle.network.specs.View.{recordOf, replyOf}
 use Rattle.station.specs.declared.Holding.{Holding}
@@ -22,6 +23,12 @@ settled : (i : ℕ) (passive : Bool) (net : Network) → setActive i (isActive n
 unfolding setActives
 settled i true net = rw (and-false (isActive net i))
 settled i false net = rw (and-true (isActive net i), set-getD (net .active) i false)
+
+-- An entry of this station, label and serial number.
+pub entry-with : (r : model.Row) (e : Successor) {station : ℕ} {l : Label} {serial : ℕ} → e .station ≡ station → e .label ≡ l → e .serial ≡ serial
+    → put (successorOf e) r ≡ put (successor station l serial) r
+unfolding successorOf
+entry-with r e a b c = rw (a, b, c)
 
 module _ (net : Network) (p : Packet) (h : Holding) (k : Holds net p h) where
   -- A label taken, with its row; the source is passive then.

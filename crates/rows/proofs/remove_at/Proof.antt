@@ -42,9 +42,12 @@ loop-less c = search needs
 loop-again : tie.Need-loop-again Inv-loop μ-loop
 loop-again c =
     let loop = c .before .before .before .loop in
-    let e = successorOf (c .before .entry .result) in
-    (omega arith, omega arith, c .with-entry .ensures .count-same ∙ loop .inv .2,
-    moved-more _ _ (loop .k) (loop .row) (c .with-entry .result) e (loop .inv .3) (loop .inv .0) (c .before .entry .ensures) (c .with-entry .ensures))
+    let e = successorOf (c .before .entry .result) in (
+      omega arith,
+      omega arith,
+      c .with-entry .ensures .count-same ∙ loop .inv .2,
+      moved-more _ _ (loop .k) (loop .row) (c .with-entry .result) e (loop .inv .3) (loop .inv .0) (c .before .entry .ensures) (c .with-entry .ensures),
+    )
 
 returns : tie.Need-returns Inv-loop μ-loop
 unfolding rowOf entryOf

@@ -50,7 +50,6 @@ unfolding under successorOf
 loop-again c =
     let args = c .before .before .before .before .before .before .before .args in
     let at = c .before .before .before .before .before .loop in
-    let e = entryOf (args .row) (at .k) in
     let read = c .before .before .before .entry .ensures in
     let above-e = c .before .is-above .ensures ∙ ap (λ (x : model.Successor). above (args .g) (x .label)) read in
     cases

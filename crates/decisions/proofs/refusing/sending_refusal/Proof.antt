@@ -1,7 +1,10 @@
 -- `refusing::sending_refusal` meets its contract: each number by its test.
+use mathlib.Core.Path.{_≡_, ap₂}
+use mathlib.Core.Bool.{Bool, _||_}
+use native.Mathlib.Omega.{arith}
 use borrow.Author.Needs.{needs}
-use borrow.Author.Tests.{lt-ltb, le-ltb}
-use Rattle.decisions.specs.Refusing.{sendingRefusal}
+use Rattle.base.proofs.Booleans.{was-true, was-false}
+use Rattle.decisions.proofs.RefusalLaws.{used, refused-13, refused-7, refused-not}
 use Rattle.decisions.proofs.refusing.sending_refusal.Statement.{statement}
 use Rattle.decisions.proofs.refusing.sending_refusal.Tie as tie
 
@@ -11,19 +14,19 @@ used-up-requires c κs = search needs
 used-up-requires-2 : tie.Need-used-up-requires-2
 used-up-requires-2 c κs = search needs
 
+-- The test for 13.
+module _ (c : tie.After-used-up2) where
+  used-is : c .before .used-up .result || c .used-up2 .result ≡ used 0 0 (c .before .before .args .first) (c .before .before .args .sent) (c .before .before .args .second) (c .before .before .args .more)
+  used-is = ap₂ (λ (x y : Bool). x || y) (c .before .used-up .ensures) (c .used-up2 .ensures)
+
 returns : tie.Need-returns
-unfolding sendingRefusal
-returns c = rw (← c .before .before .used-up .ensures, ← c .before .used-up2 .ensures, c .if1 .taken)
+returns c = refused-13 _ _ _ _ _ _ (was-true _ _ (used-is (c .before)) (c .if1 .taken))
 
 returns-2 : tie.Need-returns-2
-unfolding sendingRefusal
-returns-2 c =
-    rw (← c .before .before .before .used-up .ensures, ← c .before .before .used-up2 .ensures, c .before .if1 .left, lt-ltb _ _ (c .if2 .taken))
+returns-2 c = refused-7 _ _ _ _ _ _ (was-false _ _ (used-is (c .before .before)) (c .before .if1 .left)) (c .if2 .taken)
 
 returns-3 : tie.Need-returns-3
-unfolding sendingRefusal
-returns-3 c =
-    rw (← c .before .before .before .used-up .ensures, ← c .before .before .used-up2 .ensures, c .before .if1 .left, le-ltb _ _ (c .if2 .left))
+returns-3 c = refused-not _ _ _ _ _ _ (was-false _ _ (used-is (c .before .before)) (c .before .if1 .left)) (omega (arith, c .if2 .left))
 
 pub sending-refusal-spec : {M : Type 1} → statement M
 sending-refusal-spec = tie.close (tie.spec used-up-requires used-up-requires-2 returns returns-2 returns-3)

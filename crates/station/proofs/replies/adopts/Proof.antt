@@ -1,8 +1,7 @@
 -- `replies::adopts` meets its contract: the label, its row and who is active.
-use mathlib.Core.Path.{refl}
+use mathlib.Core.Path.{refl, _∙_}
 use borrow.Author.Needs.{needs}
-use Rattle.rows.specs.View.{successorOf}
-use Rattle.station.proofs.ReplyLaws.{holding-adopts}
+use Rattle.station.proofs.ReplyLaws.{entry-with, holding-adopts}
 use Rattle.station.proofs.replies.adopts.Statement.{statement}
 use Rattle.station.proofs.replies.adopts.Tie as tie
 
@@ -10,8 +9,7 @@ adopted-requires : tie.Need-adopted-requires
 adopted-requires c κs = search needs
 
 returns : tie.Need-returns
-unfolding successorOf
-returns c = (λ net k. holding-adopts net _ _ k _ _ (c .adopted .ensures), refl)
+returns c = (λ net k. holding-adopts net _ _ k _ _ (c .adopted .ensures ∙ entry-with _ _ refl refl refl), refl)
 
 pub adopts-spec : {M : Type 1} → statement M
 adopts-spec = tie.close (tie.spec adopted-requires returns)
