@@ -1,20 +1,20 @@
 -- A call by the tests for its refusals, one after the other.
-use Prim.Native.Nat.{ℕ, _+_, _≤_, _<_}
+use Prim.Native.Nat.{ℕ, _≤_, _<_}
 use mathlib.Core.Path.{_≡_, refl, sym, ap, _∙_}
 use mathlib.Core.Logic.{_≢_}
 use mathlib.Core.Bool.{Bool, true, false, not, _||_}
 use mathlib.Core.List.{List, [], _∷_}
-use lib.ListN.{length, length-map, length-append}
+use lib.ListN.{length, length-map}
 use lib.Dec.{ltb, leb, eqb}
 use native.Mathlib.Omega.{arith}
-use borrow.Author.Tests.{lt-ltb, le-ltb, leb-true, leb-false, eqb-false, not-false}
+use borrow.Author.Tests.{leb-true, leb-false, eqb-false, not-false}
 use Rattle.base.specs.Choice.{if_then_else_}
 use Rattle.base.proofs.Booleans.{both, neither, choose}
 use Rattle.base.proofs.Loops.{below-length}
 use Rattle.base.specs.Numbers.{maxU32}
 use Rattle.base.specs.Results.{refused, accepted, refuse_when_otherwise_}
 use Rattle.base.proofs.Results.{refuse-holds, refuse-passes}
-use Rattle.model.specs.Memory.{Packet, Network, linkUp, requestNumberAt, isActive, packetAt, setLink, setRow, setActive, setAir}
+use Rattle.model.specs.Memory.{Packet, Network, linkUp, requestNumberAt, isActive, packetAt, setLink, setRow, setActive}
 use Rattle.model.specs.Memory.{fresh, airLimit, sizeInRange, memoryInRange}
 use Rattle.model.specs.Calls.{Call, Open, Up, Down, Solicit, GiveUp, Expire, Deliver, Lose, Duplicate}
 use Rattle.model.specs.Calls.{Effect, effect, usedUp, limited, notStation, notPair, notPacket}

@@ -14,7 +14,7 @@ use Rattle.base.proofs.Lists.{map-set}
 use Rattle.label.specs.declared.Label.{Label}
 use Rattle.model.specs.Memory as model
 use Rattle.model.specs.Memory.{Network, place, request, setNumbers, setSoughts, setActives, setAir, setSerials, airLimit}
-use Rattle.model.specs.Calls.{Solicit, Lose, Duplicate, Effect, effect, usedUp, limited, notPacket, append, countOn, send, sending, neighbours, copies, solicit, removePacket, step}
+use Rattle.model.specs.Calls.{Solicit, Lose, Duplicate, Effect, effect, usedUp, limited, notPacket, append, countOn, send, sending, copies, solicit, removePacket}
 use Rattle.model.specs.Events.{calls, eventOf}
 use Rattle.model.proofs.Refusals.{pair-tells, packet-tells, solicit-limited, lose-accepted, duplicate-limited, limited-accepted}
 use Rattle.model.proofs.Serials.{used-one, used-none, sending-length}
@@ -27,7 +27,6 @@ use Rattle.network.proofs.ViewLaws.{number-at, label-at}
 use Rattle.network.proofs.Ranged.{Ranged}
 use Rattle.network.proofs.PacketLaws.{packets-count, packets-at}
 use Rattle.decisions.specs.Refusing.{Passes}
-use Rattle.steps.specs.Happens.{happened, Happens}
 use Rattle.steps.proofs.PacketMoves.{removeAt-length}
 use Rattle.steps.proofs.RunLaws.{airing}
 use Rattle.steps.proofs.ArmLaws.{Does, Tested, known, passes, both-below}

@@ -1,5 +1,5 @@
 -- Down, and an error delivered, as a turn of the run makes them.
-use Prim.Native.Nat.{ℕ, zero, _+_, _-_, _%_, _≤_, _<_}
+use Prim.Native.Nat.{ℕ, zero, _+_, _-_, _%_, _<_}
 use mathlib.Core.Path.{_≡_, refl, sym, ap, subst, _∙_}
 use mathlib.Core.Logic.{_≢_, _⊎_, inl, inr}
 use mathlib.Core.Bool.{Bool, false, not, _&&_, _||_, and-false, and-true, or-false}

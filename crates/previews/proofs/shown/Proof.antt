@@ -1,4 +1,5 @@
 -- `shown` meets its contract: 13 or 7, or what it was given.
+use Prim.Native.Nat.{_+_}
 use borrow.Author.Needs.{needs}
 use Rattle.previews.proofs.ShownLaws.{shown-stopped, shown-whole}
 use Rattle.previews.proofs.shown.Statement.{statement}
@@ -14,10 +15,14 @@ turned-down-requires : tie.Need-turned-down-requires
 turned-down-requires c κs = search needs
 
 returns : tie.Need-returns
-returns c = shown-stopped _ _ _ (c .before .before .sending-refusal .ensures) _ (c .before .if1 .taken) (c .turned-down .ensures)
+returns c =
+    let args = c .before .before .before .args in
+    shown-stopped (args .serial) (args .sent) (args .left + args .sent) (c .before .before .sending-refusal .ensures) _ (c .before .if1 .taken) (c .turned-down .ensures)
 
 returns-2 : tie.Need-returns-2
-returns-2 c = shown-whole _ _ _ (c .before .sending-refusal .ensures) _ (c .if1 .left)
+returns-2 c =
+    let args = c .before .before .args in
+    shown-whole (args .serial) (args .sent) (args .left + args .sent) (c .before .sending-refusal .ensures) _ (c .if1 .left)
 
 pub shown-spec : {M : Type 1} → statement M
 shown-spec = tie.close (tie.spec add-sending-refusal sending-refusal-requires turned-down-requires returns returns-2)
