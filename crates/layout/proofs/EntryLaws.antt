@@ -18,9 +18,8 @@ use Rattle.codec.specs.Tables.{tableAt, padded, countedAt}
 use Rattle.codec.proofs.TableLaws.{Stands, counted-wide, counted-back}
 use Rattle.codec.proofs.FieldLaws.{written-wide, flag-back, flag-is, format-back, entry-back}
 use Rattle.model.specs.Memory.{Successor, Row, Record, Body, request, reply, error, other, Packet, zeroLabel, zeroPacket, rowLimit, airLimit}
-use Rattle.rows.specs.declared.Successor as rows
 use Rattle.rows.specs.declared.Row as code
-use Rattle.rows.specs.View.{successorOf, entryOf, rowOf, Written}
+use Rattle.rows.specs.View.{entryOf, rowOf, Written}
 use Rattle.rows.proofs.Bounds.{RowLengths, entry-past}
 use Rattle.network.specs.declared.RequestNumber.{RequestNumber}
 use Rattle.network.specs.declared.Record as network
@@ -31,7 +30,7 @@ use Rattle.network.specs.View.{recordOf, requestOf, replyOf, bodyOf, packetOf, 
 use Rattle.network.proofs.PacketLaws.{packetIn}
 use Rattle.layout.specs.Formats.{labelFormat, labelFrom, successorFormat, successorFrom, successorWide, zeroSuccessor, rowWide, recordFormat, recordFrom, Station, stationFormat, stationFrom, linkFormat, linkFrom, packetFormat, resetIn, packetFrom, packetWide, airWide, plainBody, plainOf, withBody, Known}
 use Rattle.layout.specs.declared.memory.Stations.{Stations}
-use Rattle.layout.specs.Entries.{successorIn, recordIn, stationAt}
+use Rattle.layout.specs.Entries.{recordIn, stationAt}
 use Rattle.layout.specs.Stored.{storedLabel, storedSuccessor, storedRow, storedRecord, storedStation, storedLink, storedFields, storedPacket, storedAir}
 use Rattle.layout.specs.Written.{labelBytes, successorBytes, rowBytes, recordBytes, stationBytes, linkBytes, packetBytes, airBytes}
 use Rattle.layout.specs.Fits.{RowFits, PacketFits}
@@ -47,11 +46,7 @@ packet-wide p = written-wide packetFormat (plainOf p)
 pub air-wide : (air : List Packet) → length (airBytes air) ≡ airWide
 air-wide air = counted-wide packetBytes _ packet-wide airLimit zeroPacket air
 
--- An entry of a row and a record of the code are read as the model's.
-pub successor-in : (e : rows.Successor) → successorOf e ≡ successorIn e
-unfolding successorOf
-successor-in e = refl
-
+-- A record of the code is read as the model's.
 pub record-in : (r : network.Record) → recordOf r ≡ recordIn r
 unfolding recordOf
 record-in r = refl

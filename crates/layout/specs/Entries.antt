@@ -4,15 +4,11 @@ use mathlib.Core.Bool.{false}
 use mathlib.Core.List.{List, map}
 use lib.ListN.{getD}
 use Rattle.base.specs.Lists.{tabulate}
-use Rattle.model.specs.Memory.{Successor, Record}
-use Rattle.rows.specs.declared.Successor as rows
+use Rattle.model.specs.Memory.{Record}
 use Rattle.network.specs.declared.Record as network
 use Rattle.layout.specs.declared.entries.Station as code
 use Rattle.layout.specs.declared.memory.Stations as code-memory
 use Rattle.layout.specs.Formats.{Station}
-
-abbrev pub successorIn : rows.Successor → Successor
-successorIn e = record { station = e .station; label = e .label; serial = e .serial }
 
 abbrev pub recordIn : network.Record → Record
 recordIn r = record { number = r .number .0; destination = r .destination; cached = r .cached; lastHop = r .«last_hop»; passed = r .passed }

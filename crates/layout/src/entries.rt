@@ -5,13 +5,13 @@ ghost use lib.ListN.{length, getD};
 ghost use lib.Seq.{sets};
 ghost use Rattle.codec.specs.Fields.{widths, values, AllFit, Fits};
 ghost use Rattle.model.specs.Memory.{rowLimit};
-ghost use Rattle.rows.specs.View.{rowOf};
+ghost use Rattle.rows.specs.View.{successorOf, rowOf};
 ghost use Rattle.network.specs.View.{recordOf};
 ghost use Rattle.layout.specs.Formats.{labelFormat, labelFrom, labelWide, successorFormat, successorFrom, successorWide, zeroSuccessor, rowWide, recordFormat, recordFrom, recordWide, stationFormat, stationFrom, stationWide, linkWide};
 ghost use Rattle.layout.specs.Stored.{storedLabel, storedSuccessor, storedRow, storedRecord, storedStation, storedLink};
 ghost use Rattle.layout.specs.Written.{labelBytes, successorBytes, rowBytes, recordBytes, stationBytes, linkBytes};
 ghost use Rattle.layout.specs.Fits.{RowFits};
-ghost use Rattle.layout.specs.Entries.{successorIn, recordIn, stationIn};
+ghost use Rattle.layout.specs.Entries.{recordIn, stationIn};
 use crate::formats::LABEL_WIDTHS;
 use crate::formats::LINK_WIDTHS;
 use crate::formats::RECORD_WIDTHS;
@@ -77,7 +77,7 @@ pub fn put_label(out: &mut [u8], at: usize, l: Label)
 // The entry of a row with these values, and the values of an entry.
 fn entry_from(v: [u64; 5]) -> Successor
     requires { ⌜ AllFit (widths successorFormat) v ⌝ }
-    ensures { λ r. ⌜ successorIn r ≡ successorFrom v ⌝ }
+    ensures { λ r. ⌜ successorOf r ≡ successorFrom v ⌝ }
 {
     Successor {
         label: Label {
@@ -91,7 +91,7 @@ fn entry_from(v: [u64; 5]) -> Successor
 }
 
 fn entry_values(e: Successor) -> [u64; 5]
-    ensures { λ r. ⌜ (r ≡ values successorFormat (successorIn e)) × Fits successorFormat (successorIn e) ⌝ }
+    ensures { λ r. ⌜ (r ≡ values successorFormat (successorOf e)) × Fits successorFormat (successorOf e) ⌝ }
 {
     let station = e.station;
     let s = e.label.s.0;
@@ -103,7 +103,7 @@ fn entry_values(e: Successor) -> [u64; 5]
 
 fn read_entry(bytes: &[u8], at: usize) -> Successor
     requires { ⌜ at + successorWide ≤ length (now bytes) ⌝ }
-    ensures { λ r. ⌜ successorIn r ≡ storedSuccessor (now (bytes .entry)) at ⌝ }
+    ensures { λ r. ⌜ successorOf r ≡ storedSuccessor (now (bytes .entry)) at ⌝ }
 {
     let widths = SUCCESSOR_WIDTHS;
     let mut v = [0; 5];
@@ -113,7 +113,7 @@ fn read_entry(bytes: &[u8], at: usize) -> Successor
 
 fn put_entry(out: &mut [u8], at: usize, e: Successor)
     requires { ⌜ at + successorWide ≤ length (now out) ⌝ }
-    ensures { λ _. ⌜ (now (out .exit) ≡ sets (now (out .entry)) at (successorBytes (successorIn e))) × Fits successorFormat (successorIn e) ⌝ }
+    ensures { λ _. ⌜ (now (out .exit) ≡ sets (now (out .entry)) at (successorBytes (successorOf e))) × Fits successorFormat (successorOf e) ⌝ }
 {
     let widths = SUCCESSOR_WIDTHS;
     let v = entry_values(e);
@@ -140,7 +140,7 @@ pub fn read_row(bytes: &[u8], at: usize) -> Row
 // Entry k of a row, or zeros where the row has none.
 fn entry_of(row: Row, k: usize) -> Successor
     requires { ⌜ k < rowLimit ⌝ }
-    ensures { λ r. ⌜ successorIn r ≡ getD (rowOf row) k zeroSuccessor ⌝ }
+    ensures { λ r. ⌜ successorOf r ≡ getD (rowOf row) k zeroSuccessor ⌝ }
 {
     let count = row.count as usize;
     if count <= k {

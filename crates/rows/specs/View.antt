@@ -22,7 +22,7 @@ zeroRow = record { labels = []; serials = []; stations = []; count = 0 }
 abbrev pub successor : (station : ℕ) → Label → (serial : ℕ) → model.Successor
 successor station label serial = record { station = station; label = label; serial = serial }
 
-unfoldable pub successorOf : Successor → model.Successor
+abbrev pub successorOf : Successor → model.Successor
 successorOf e = successor (e .station) (e .label) (e .serial)
 
 -- Entry k of a row.

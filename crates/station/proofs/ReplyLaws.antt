@@ -27,7 +27,6 @@ settled i false net = rw (and-true (isActive net i), set-getD (net .active) i fa
 -- An entry of this station, label and serial number.
 pub entry-with : (r : model.Row) (e : Successor) {station : ℕ} {l : Label} {serial : ℕ} → e .station ≡ station → e .label ≡ l → e .serial ≡ serial
     → put (successorOf e) r ≡ put (successor station l serial) r
-unfolding successorOf
 entry-with r e a b c = rw (a, b, c)
 
 module _ (net : Network) (p : Packet) (h : Holding) (k : Holds net p h) where

@@ -1,7 +1,7 @@
 -- `entry` meets its contract.
 use mathlib.Core.Path.{refl}
 use borrow.Author.Needs.{needs}
-use Rattle.rows.specs.View.{successorOf, entryOf}
+use Rattle.rows.specs.View.{entryOf}
 use Rattle.rows.proofs.entry.Statement.{statement}
 use Rattle.rows.proofs.entry.Tie as tie
 
@@ -21,7 +21,7 @@ element-copy-out-station : tie.Need-element-copy-out-station
 element-copy-out-station c = search needs
 
 returns : tie.Need-returns
-unfolding successorOf entryOf
+unfolding entryOf
 returns c = refl
 
 pub entry-spec : {M : Type 1} → statement M

@@ -25,7 +25,7 @@ push-requires c κs =
     omega (arith, row-length (c .with-room .result), row-length row, ap length (c .with-room .ensures), room-length (rowOf row) (omega (arith, row-length row)))
 
 returns : tie.Need-returns
-unfolding rowOf successorOf
+unfolding rowOf
 returns c =
     let start = c .before .before .before .before in
     let row = start .args .row in
@@ -40,7 +40,7 @@ with-entry-requires : tie.Need-with-entry-requires
 with-entry-requires c κs = search needs
 
 returns-2 : tie.Need-returns-2
-unfolding rowOf placeOf successorOf
+unfolding rowOf placeOf
 returns-2 c =
     let start = c .before .before .before in
     let row = start .args .row in

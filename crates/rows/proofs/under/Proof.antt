@@ -9,7 +9,7 @@ use Rattle.base.proofs.Loops.{tabulate-length, keep-yes, keep-no}
 use Rattle.label.specs.Label.{above}
 use Rattle.model.specs.Memory as model
 use Rattle.model.specs.Memory.{under}
-use Rattle.rows.specs.View.{successorOf, entryOf, rowOf}
+use Rattle.rows.specs.View.{entryOf, rowOf}
 use Rattle.rows.proofs.RowLaws.{under-short}
 use Rattle.rows.proofs.under.Statement.{statement}
 use Rattle.rows.proofs.under.Tie as tie
@@ -46,7 +46,7 @@ loop-less : tie.Need-loop-less Inv-loop μ-loop
 loop-less c = search needs
 
 loop-again : tie.Need-loop-again Inv-loop μ-loop
-unfolding under successorOf
+unfolding under
 loop-again c =
     let args = c .before .before .before .before .before .before .before .args in
     let at = c .before .before .before .before .before .loop in

@@ -3,7 +3,7 @@ use mathlib.Core.Path.{refl}
 use native.Mathlib.Omega.{arith}
 use lib.Seq.{getD-set-same, getD-set-other}
 use borrow.Author.Needs.{needs}
-use Rattle.rows.specs.View.{successorOf, entryOf}
+use Rattle.rows.specs.View.{entryOf}
 use Rattle.rows.proofs.Bounds.{row-lengths}
 use Rattle.rows.proofs.with_entry.Statement.{statement}
 use Rattle.rows.proofs.with_entry.Tie as tie
@@ -24,7 +24,7 @@ element-write-next-2 : tie.Need-element-write-next-2
 element-write-next-2 c = search needs
 
 returns : tie.Need-returns
-unfolding successorOf entryOf
+unfolding entryOf
 returns c =
     let start = c .before in
     let row = start .args .row in

@@ -7,7 +7,6 @@ use Rattle.base.proofs.Loops.{tabulate-at, tabulate-or}
 use Rattle.model.specs.Memory.{zeroLabel}
 use Rattle.rows.specs.View.{entryOf, rowOf}
 use Rattle.layout.specs.Formats.{zeroSuccessor}
-use Rattle.layout.proofs.EntryLaws.{successor-in}
 use Rattle.layout.proofs.entries.entry_of.Statement.{statement}
 use Rattle.layout.proofs.entries.entry_of.Tie as tie
 
@@ -31,7 +30,7 @@ returns-2 : tie.Need-returns-2
 unfolding rowOf
 returns-2 c =
     let args = c .before .before .before .args in
-    sym (successor-in (c .entry .result)) ∙ c .entry .ensures ∙ sym (tabulate-at (args .row .count) (entryOf (args .row)) (args .k) zeroSuccessor (omega arith))
+    c .entry .ensures ∙ sym (tabulate-at (args .row .count) (entryOf (args .row)) (args .k) zeroSuccessor (omega arith))
 
 pub entry-of-spec : {M : Type 1} → statement M
 entry-of-spec = tie.close (tie.spec cast-count label-of-requires returns entry-requires returns-2)

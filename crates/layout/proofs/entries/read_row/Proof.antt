@@ -1,12 +1,12 @@
 -- `entries::read_row` meets its contract: the first k entries are read.
 use Prim.Native.Nat.{_-_, _≤_}
-use mathlib.Core.Path.{_≡_, _∙_}
+use mathlib.Core.Path.{_≡_}
 use native.Mathlib.Omega.{arith}
 use borrow.Author.Needs.{needs}
 use Rattle.model.specs.Memory.{rowLimit}
 use Rattle.rows.specs.View.{entryOf, rowOf}
 use Rattle.rows.proofs.Bounds.{row-lengths}
-use Rattle.layout.proofs.EntryLaws.{successor-in, RowRead, read-none, read-more, read-all}
+use Rattle.layout.proofs.EntryLaws.{RowRead, read-none, read-more, read-all}
 use Rattle.layout.proofs.entries.read_row.Statement.{statement}
 use Rattle.layout.proofs.entries.read_row.Tie as tie
 
@@ -50,7 +50,7 @@ loop-again : tie.Need-loop-again Inv-loop μ-loop
 loop-again c =
     let loop = c .before .before .before .loop in
     let e = c .before .read-entry in
-    (omega arith, read-more _ _ (loop .row) (loop .k) (c .with-entry .result) _ (loop .inv .1) (c .with-entry .ensures) (row-lengths (c .with-entry .result) (c .with-entry .ok)) (successor-in (e .result) ∙ e .ensures))
+    (omega arith, read-more _ _ (loop .row) (loop .k) (c .with-entry .result) _ (loop .inv .1) (c .with-entry .ensures) (row-lengths (c .with-entry .result) (c .with-entry .ok)) (e .ensures))
 
 shared-slice-read-count : tie.Need-shared-slice-read-count Inv-loop μ-loop
 shared-slice-read-count c = search needs
