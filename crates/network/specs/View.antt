@@ -96,9 +96,9 @@ pub record Lengths (m : Memory) : Type 0 where
   pub s-length : length (m .s) ≡ 256
   pub m-length : length (m .m) ≡ 256
   pub d-length : length (m .d) ≡ 256
+  pub serials-length : length (m .serials) ≡ 16
   pub rows-length : length (m .rows) ≡ 256
   pub records-length : length (m .records) ≡ 256
-  pub serials-length : length (m .serials) ≡ 16
   pub numbers-length : length (m .numbers) ≡ 16
   pub sought-length : length (m .sought) ≡ 16
   pub active-length : length (m .active) ≡ 16
