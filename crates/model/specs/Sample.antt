@@ -1,4 +1,4 @@
--- The example of 01, "Scripts and the printout": the model prints what stands there.
+-- The example of 01, "Scripts and the printout", and one of 02, F-4: the model prints what stands there.
 use Prim.Native.Nat.{ℕ}
 use mathlib.Core.Path.{_≡_, refl}
 use mathlib.Core.List.{List, [], _∷_}
@@ -12,6 +12,7 @@ use Rattle.model.specs.Memory.{successorInRange, rowInRange, recordInRan
 use Rattle.model.specs.Memory.{headInRange, bodyInRange, packetInRange, airInRange, sizeInRange, memoryInRange}
 use Rattle.model.specs.Calls.{after, usedUp, limited, notStation, notPair, notPacket, step, run}
 use Rattle.model.specs.Calls.{append, countOn, send, sending, neighbours, copies, solicit, removePacket, receive, deliver}
+use Rattle.model.specs.Calls.{errors, maskOf, takeOut, removes, empties, emptied, between, everyDestination, lost, parted, down, bit, errorOutcome, withdrawn, onError}
 use Rattle.model.specs.Calls.{recorded, markPassed, replyTo, resets, atDestination, canReply, onwardLabel, onwardReset, onward, engage, onRequest}
 use Rattle.model.specs.Calls.{matches, cachedAt, adopt, settle, passesOn, passOn, onOutcome, onReply, nextOf, follow, trace}
 use Rattle.model.specs.Events.{usesOne, notEvent, callOf, eventOf, eventAt, callsIn, afterEvents}
@@ -40,11 +41,52 @@ lines =
 unfoldable pub routes : List LabelLine
 routes = labelLine 1 0 (label 1 1 2) (0 ∷ []) ∷ labelLine 2 0 (label 1 2 3) (1 ∷ []) ∷ []
 
-pub prints : (eventLines (fresh 3 1) kinds operands ≡ lines) × (routeLines (fresh 3 1) kinds operands ≡ routes)
-unfolding eventLines lineAt lineOf resultLine routeLines labelLines stationLines labelLineAt isListed afterEvents kinds operands lines routes callsIn run eventAt eventOf callOf notEvent usesOne tabulate step after refuse_when_otherwise_ usedUp limited notStation notPair notPacket sizeInRange memoryInRange stationInRange airInRange
+-- An error that was sent before a reply arrives after it, and leaves the new successor in place (02, F-4; the example `late_error`): the link of 0
+-- and 1 breaks and comes back, 1's error to 2 stays in the air, and 2 asks again.
+unfoldable pub lateKinds : List ℕ
+lateKinds = 1 ∷ 1 ∷ 3 ∷ 6 ∷ 6 ∷ 6 ∷ 6 ∷ 6 ∷ 2 ∷ 1 ∷ 3 ∷ 6 ∷ 6 ∷ 6 ∷ 6 ∷ 6 ∷ 6 ∷ 9 ∷ []
+
+unfoldable pub lateOperands : List ℕ
+lateOperands = 0 ∷ 1 ∷ 1 ∷ 2 ∷ 2 ∷ 0 ∷ 0 ∷ 0 ∷ 0 ∷ 0 ∷ 0 ∷ 0 ∷ 0 ∷ 0 ∷ 0 ∷ 0 ∷ 0 ∷ 1 ∷ 0 ∷ 1 ∷ 2 ∷ 0 ∷ 1 ∷ 0 ∷ 1 ∷ 0 ∷ 1 ∷ 0 ∷ 1 ∷ 0 ∷ 1 ∷ 0 ∷ 0 ∷ 0 ∷ 2 ∷ 0 ∷ []
+
+unfoldable pub lateLines : List Line
+lateLines =
+    line 0 1 0 1 0 0 0 0
+    ∷ line 1 1 1 2 0 0 0 0
+    ∷ line 2 3 2 0 0 1 1 0
+    ∷ line 3 6 0 0 103 2 2 0
+    ∷ line 4 6 0 0 102 1 2 0
+    ∷ line 5 6 0 0 101 0 1 0
+    ∷ line 6 6 0 0 115 1 1 0
+    ∷ line 7 6 0 0 115 0 0 0
+    ∷ line 8 2 0 1 0 1 1 0
+    ∷ line 9 1 0 1 0 0 1 0
+    ∷ line 10 3 2 0 0 1 2 0
+    ∷ line 11 6 1 0 103 2 3 0
+    ∷ line 12 6 1 0 102 1 3 0
+    ∷ line 13 6 1 0 101 0 2 0
+    ∷ line 14 6 1 0 115 1 2 0
+    ∷ line 15 6 1 0 115 0 1 0
+    ∷ line 16 6 0 0 121 0 0 0
+    ∷ line 17 9 2 0 131 0 0 2
+    ∷ []
+
+-- From three stations and start 1 these events print these lines and these routes.
+abbrev pub Prints : (kinds operands : List ℕ) → List Line → List LabelLine → Type 0
+Prints kinds operands lines routes = (eventLines (fresh 3 1) kinds operands ≡ lines) × (routeLines (fresh 3 1) kinds operands ≡ routes)
+
+computed : Prints kinds operands lines routes × Prints lateKinds lateOperands lateLines routes
+unfolding eventLines lineAt lineOf resultLine routeLines labelLines stationLines labelLineAt isListed afterEvents kinds operands lines routes lateKinds lateOperands lateLines callsIn run eventAt eventOf callOf notEvent usesOne tabulate step after refuse_when_otherwise_ usedUp limited notStation notPair notPacket sizeInRange memoryInRange stationInRange airInRange
     cellInRange rowInRange recordInRange ownInRange headInRange bodyInRange packetInRange successorInRange allBelow someBelow below allIn someIn keep
     isEmpty distinct unassigned isUnassigned inRange above fitting next split newLabel zeroLabel zeroRecord zeroPacket linkIn setLabels
     setRows setRecords setLinks setNumbers setSoughts setActives setAir setSerials freshLabels freshRecord fresh names without under replace withRoom
     put append countOn send sending neighbours copies solicit recorded markPassed replyTo resets atDestination canReply onwardLabel onwardReset onward
     engage onRequest matches cachedAt adopt settle passesOn passOn onOutcome onReply removePacket receive deliver nextOf follow trace
-prints = (refl, refl)
+    errors maskOf takeOut removes empties emptied between everyDestination lost parted down bit errorOutcome withdrawn onError
+computed = ((refl, refl), (refl, refl))
+
+pub prints : Prints kinds operands lines routes
+prints = computed .0
+
+pub prints-late : Prints lateKinds lateOperands lateLines routes
+prints-late = computed .1
