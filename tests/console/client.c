@@ -2219,29 +2219,30 @@ static void test_deliver_used_up(void)
     CHECK_DELIVER_USED_UP(d, 0, SRP_ERROR_NONE_REMOVED, 0);
 }
 
-/* 13 before 7, of Deliver and its preview; and a packet that is answered 13 is lost by draining. */
+/* Packet 0, whose receiver i would send, where the air is full and i has no serial left: 13 before 7, of Deliver and its preview; and draining loses
+ * each packet that is answered so. */
+static void check_full_and_used_up(int line, struct desk *d, unsigned i)
+{
+    const struct call deliver = {SRP_EVENT_DELIVER, 0, 0}, preview = {PREVIEW, 0, 0};
+
+    fill_air(d, SRP_MAX_PACKETS);
+    check_refused(line, d, deliver, LENT, OUT, SRP_AIR_FULL);
+    put_last_serial(d, i, UINT64_MAX);
+    check_refused(line, d, deliver, LENT, OUT, SRP_SERIALS_USED_UP);
+    check_refused(line, d, preview, LENT, OUT, SRP_SERIALS_USED_UP);
+    check_drain(line, d, 0, SRP_MAX_PACKETS);
+    free(d);
+}
+
+/* A request that station 1 sends on, and an error that empties a row of station 3, which has two neighbours. */
 static void test_full_and_used_up(void)
 {
-    struct desk *d = example_after(3);
+    struct desk *d;
 
-    fill_air(d, SRP_MAX_PACKETS);
-    CHECK_REFUSED(d, SRP_AIR_FULL, SRP_EVENT_DELIVER, 0, 0);
-    put_last_serial(d, 1, UINT64_MAX);
-    CHECK_REFUSED(d, SRP_SERIALS_USED_UP, SRP_EVENT_DELIVER, 0, 0);
-    CHECK_REFUSED(d, SRP_SERIALS_USED_UP, PREVIEW, 0, 0);
-    check_drain(__LINE__, d, 0, SRP_MAX_PACKETS);
-    free(d);
-
-    /* An error that empties a row of station 3, which has two neighbours. */
+    check_full_and_used_up(__LINE__, example_after(3), 1);
     d = square_after(18);
     d->memory[SRP_ROW_AT(3, 0) + SRP_ROW_COUNT] = 1;
-    fill_air(d, SRP_MAX_PACKETS);
-    CHECK_REFUSED(d, SRP_AIR_FULL, SRP_EVENT_DELIVER, 0, 0);
-    put_last_serial(d, 3, UINT64_MAX);
-    CHECK_REFUSED(d, SRP_SERIALS_USED_UP, SRP_EVENT_DELIVER, 0, 0);
-    CHECK_REFUSED(d, SRP_SERIALS_USED_UP, PREVIEW, 0, 0);
-    check_drain(__LINE__, d, 0, SRP_MAX_PACKETS);
-    free(d);
+    check_full_and_used_up(__LINE__, d, 3);
 }
 
 /* 01's example from its request on. The request is lost at 1, or sent on and lost at 0, or its reply is lost at 1. */
