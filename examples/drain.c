@@ -35,7 +35,7 @@ static void settle(const char *after)
 
 int main(void)
 {
-    srp_open(memory, sizeof memory, STATIONS, 1);
+    srp_open(memory, sizeof memory, STATIONS, 1, SRP_MAX_PACKETS);
     for (unsigned i = 0; i < STATIONS; i++)
         srp_up(memory, sizeof memory, i, (i + 1) % STATIONS);
     for (unsigned i = 0; i < 8; i += 2)

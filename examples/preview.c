@@ -46,7 +46,7 @@ static void deliver_all(void)
 
 int main(void)
 {
-    srp_open(memory, sizeof memory, 3, 1);
+    srp_open(memory, sizeof memory, 3, 1, SRP_MAX_PACKETS);
     srp_up(memory, sizeof memory, 0, 1);
     srp_up(memory, sizeof memory, 1, 2);
     srp_solicit(memory, sizeof memory, 2, 0);

@@ -6,19 +6,26 @@
  * lists them field by field. The library keeps nothing between calls. The bytes may be copied,
  * stored and compared.
  *
- * SLICES. A slice is a pointer and then a length in bytes. The library cannot test two things:
+ * SLICES. A slice is a pointer and then a length in bytes; the length of lines, which srp_run is
+ * lent, counts numbers of 64 bits. The library cannot test two things:
  *   - a pointer must be valid for its length, for writing too where it is not const, and must not be
- *     null, also where the length is 0;
+ *     null, also where the length is 0; that of lines must be aligned as a uint64_t is;
  *   - a slice that a call writes to must not overlap another slice of the same call. Nobody else may
  *     use it during the call, nor write to the others.
  * All else is tested: every number and every content of the bytes may be handed in.
  *
- * RESULTS. Every function returns 64 bits. SRP_ANSWER is the low half: 0, a refusal number (1 to 99,
- * of which 1 to 13 are in use) or an outcome number (101 to 133). SRP_COUNT is the high half: what the
- * function's comment says, and 0 where the call is turned down. A function that counts two things has
- * its answer in the lowest 16 bits, SRP_SHORT_ANSWER, and then SRP_FIRST_COUNT and SRP_SECOND_COUNT of
- * 24 bits each; turned down, it too returns the refusal number alone. srp_new_label and
- * srp_script_start have results of their own.
+ * RESULTS. Every function returns 64 bits. SRP_ANSWER is the low half: 0, a refusal number (1 to
+ * 99, of which 1 to 14 are in use) or an outcome number (101 to 133). SRP_COUNT is the high half:
+ * what the function's comment says, and 0 where the call is turned down. A function that counts two
+ * things (srp_drain, srp_run, srp_rehearse) has its answer in the lowest 16 bits, SRP_SHORT_ANSWER,
+ * and then SRP_FIRST_COUNT and SRP_SECOND_COUNT of 24 bits each; turned down, it too returns the
+ * refusal number alone. srp_new_label and srp_script_start have results of their own.
+ *
+ * LIMIT. A network keeps the air limit that it was opened with, 0 to 128: no call leaves more
+ * packets in the air. srp_run and srp_rehearse tell the highest count after any of their events.
+ * Rehearsed again with that count as the limit, a script tells the same of every event; with one
+ * less, where the count is at least 1, the first event that led to it is answered 7.
+ * examples/limit.c sets a limit so.
  *
  * SERIALS. Each station numbers its sendings, from 1 on: a reply has the next number, and so has a
  * broadcast, one for all its copies; a broadcast to no up neighbour has none. A serial is such a number.
@@ -36,10 +43,10 @@
  *   1 (memory): length is below SRP_LENGTH, or the bytes have no meaning, or the network that stands
  *     in them is out of range (docs/LAYOUT.md, "What is turned down").
  *   2: a station is not below n, or the two are equal.
- *   7: over 128 packets would be in the air after the call.
+ *   7: more packets than the network's limit would be in the air after the call.
  *   13 (a station): it would send a packet, and its last serial is 18,446,744,073,709,551,615.
  *
- * ACCEPTED CALLS, from srp_open to srp_drain, leave in the first SRP_LENGTH bytes of memory those
+ * ACCEPTED CALLS, from srp_open to srp_run, leave in the first SRP_LENGTH bytes of memory those
  * of the network after the step that 01 writes. Places past a count are zeros; what tables hold for
  * no station is written back (docs/LAYOUT.md, "After a call"). Bytes from SRP_LENGTH on are kept. The
  * network is in range again: while nobody else writes to the slice, no call on it gets 1 (memory).
@@ -79,13 +86,14 @@ enum srp_answer {
     SRP_IS_ACTIVE = 4,               /* Solicit by an active station */
     SRP_IS_PASSIVE = 5,              /* Give up by a passive one */
     SRP_NO_PACKET = 6,               /* k is not below the packets in the air */
-    SRP_AIR_FULL = 7,                /* over 128 packets would be in the air after the call */
+    SRP_AIR_FULL = 7,                /* more packets than the limit would be in the air after it */
     SRP_NUMBERS_USED_UP = 8,         /* the last request number is 4,294,967,295 */
     SRP_SCRIPT_SHORT = 9,            /* a script under 11 bytes */
     SRP_SCRIPT_SIZE = 10,            /* over 4,096 events, or lengths that do not fit their number */
     SRP_NO_EVENT = 11,               /* a kind not 1 to 9, or an unused operand not 0 */
     SRP_NO_ROOM = 12,                /* a lent output slice is too short */
     SRP_SERIALS_USED_UP = 13,        /* a station that would send has the last serial 2^64 - 1 */
+    SRP_LIMIT_TOO_HIGH = 14,         /* an air limit over 128 */
 
     SRP_REQUEST_KNOWN = 101,         /* a request: own or known here, nothing done */
     SRP_REQUEST_ANSWERED = 102,      /* a request: a reply was sent */
@@ -124,13 +132,14 @@ enum srp_event_kind {
 #define SRP_MIN_STATIONS 2
 #define SRP_MAX_STATIONS 16
 #define SRP_MAX_SUCCESSORS 4
-#define SRP_MAX_PACKETS 128
+#define SRP_MAX_PACKETS 128 /* in the air, and the highest air limit */
 #define SRP_MAX_EVENTS 4096
 #define SRP_MAX_TURNS 69136 /* of srp_drain */
+#define SRP_PRINTOUT_BYTES 184320 /* the room that srp_rehearse asks for */
 
 /* The memory: its length, where each part begins, and how many bytes an entry has. */
-#define SRP_LENGTH 40931
-#define SRP_VERSION 18 /* the number that byte 0 of the memory has; with another the bytes have no meaning */
+#define SRP_LENGTH 40932
+#define SRP_VERSION 19 /* the number that byte 0 of the memory has; with another the bytes have no meaning */
 
 #define SRP_VERSION_AT 0     /* SRP_VERSION, 1 byte */
 #define SRP_N_AT 1           /* n, 1 byte */
@@ -141,6 +150,7 @@ enum srp_event_kind {
 #define SRP_RECORDS_AT 30434 /* 256 records */
 #define SRP_AIR_AT 36322     /* the number of packets in the air, 1 byte */
 #define SRP_PACKETS_AT 36323 /* 128 packets */
+#define SRP_LIMIT_AT 40931   /* the air limit, 1 byte */
 
 #define SRP_STATION_BYTES 14
 #define SRP_LABEL_BYTES 16
@@ -222,11 +232,12 @@ static inline uint64_t srp_read8(const uint8_t *at)
 /* ---- The calls ------------------------------------------------------------------------------ */
 
 /*
- * Open: a fresh network of n stations, each with the label (start, 0/1) for itself.
- * Refused: 1 where length is below SRP_LENGTH, n is not 2 to 16, or start is 0. What stands in
- * memory before is not read. Answer 0, count 0.
+ * Open: a fresh network of n stations, each with the label (start, 0/1) for itself, and an air
+ * limit.
+ * Refused: 1 where length is below SRP_LENGTH, n is not 2 to 16, or start is 0; 14 where limit is
+ * over SRP_MAX_PACKETS. What stands in memory before is not read. Answer 0, count 0.
  */
-uint64_t srp_open(uint8_t *memory, size_t length, size_t n, uint64_t start);
+uint64_t srp_open(uint8_t *memory, size_t length, size_t n, uint64_t start, size_t limit);
 
 /* Up: the link of a and b is up. Refused: 1 (memory), 2, 3 if it is up. Answer 0, count 0. */
 uint64_t srp_up(uint8_t *memory, size_t length, size_t a, size_t b);
@@ -285,6 +296,33 @@ uint64_t srp_duplicate(uint8_t *memory, size_t length, size_t k);
  */
 uint64_t srp_drain(uint8_t *memory, size_t length);
 
+/* The tally of a run or a rehearsal: its events, and the most packets in the air after one. */
+#define SRP_CALLS(r) (SRP_SECOND_COUNT(r) & 0xffffu)
+#define SRP_HIGHEST(r) (SRP_SECOND_COUNT(r) >> 16)
+
+/*
+ * The line of an event in one number: its answer (the refusal or outcome number, 0 if neither) in
+ * the lowest 32 bits, then 8 bits each for the packets sent (0 if refused, and for Duplicate), the
+ * packets in the air after it, and the hops (0 but for an accepted Trace).
+ */
+#define SRP_LINE_ANSWER(l) ((uint32_t)((l) & 0xffffffffu))
+#define SRP_LINE_SENT(l) ((uint32_t)((l) >> 32 & 0xffu))
+#define SRP_LINE_AIR(l) ((uint32_t)((l) >> 40 & 0xffu))
+#define SRP_LINE_HOPS(l) ((uint32_t)((l) >> 48 & 0xffu))
+
+/*
+ * Run: E = kinds_length events one after the other, by their kinds and pairs of operands as in a
+ * script. The line of each goes to the first E numbers of lines; numbers past these are kept. An
+ * event that is turned down has its number in its line and changes nothing, and the next one
+ * follows: memory is left as by these single calls.
+ * Refused: 10 where E is over 4,096 or operands_length is not 2E; 1 (memory); 11 where a kind is
+ * not 1 to 9 or an unused operand is not 0; 12 where lines_length is below E.
+ * Answer 0; two counts: 0, and the tally, taken apart by SRP_CALLS and SRP_HIGHEST.
+ */
+uint64_t srp_run(uint8_t *memory, size_t length, const uint8_t *kinds, size_t kinds_length,
+                 const uint8_t *operands, size_t operands_length, uint64_t *lines,
+                 size_t lines_length);
+
 /*
  * Trace: from a to the first entry of the row for t, again and again. It changes nothing.
  * Refused: 1 (memory), 2. Answer: 131 at t, 132 at an empty row, 133 after n - 1 hops with neither;
@@ -340,6 +378,21 @@ uint64_t srp_script_start(const uint8_t *script, size_t length);
 uint64_t srp_write_script(size_t n, uint64_t start, const uint8_t *kinds, size_t kinds_length,
                           const uint8_t *operands, size_t operands_length, uint8_t *out, size_t out_length);
 
+/* The length of the text that srp_rehearse writes. */
+#define SRP_TEXT_LENGTH(r) SRP_FIRST_COUNT(r)
+
+/*
+ * Rehearse: a script's events on a fresh network, opened with the script's n and start and this air
+ * limit. The lines of the events and of the labels after them, as the rehearsal program prints them
+ * with limit 128, go to the first bytes of out; bytes past the text are kept, and no 0 ends it.
+ * Refused: 9, 10, 1, 11 as of srp_read_script; 14 where limit is over SRP_MAX_PACKETS; 12 where
+ * out_length is below SRP_PRINTOUT_BYTES, which has room for every text.
+ * Answer 0; two counts: the length of the text, SRP_TEXT_LENGTH, and the tally, taken apart by
+ * SRP_CALLS and SRP_HIGHEST.
+ */
+uint64_t srp_rehearse(const uint8_t *script, size_t script_length, size_t limit, uint8_t *out,
+                      size_t out_length);
+
 /* ---- New label ------------------------------------------------------------------------------ */
 
 /*
@@ -366,6 +419,9 @@ uint64_t srp_size(const uint8_t *memory, size_t length);
 
 /* Count: the packets in the air. Refused: 1 (memory). */
 uint64_t srp_air(const uint8_t *memory, size_t length);
+
+/* Count: the air limit. Refused: 1 (memory). */
+uint64_t srp_limit(const uint8_t *memory, size_t length);
 
 /* Count: 1 if the link of a and b is up, else 0. Refused: 1 (memory), 2. */
 uint64_t srp_link(const uint8_t *memory, size_t length, size_t a, size_t b);

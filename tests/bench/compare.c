@@ -26,7 +26,8 @@
 
 enum { ROUNDS = 101, CALLS = 100, STATIONS = 16, SEEKERS = 6, EVENTS = 4096 };
 
-typedef uint64_t opening(uint8_t *memory, size_t length, size_t n, uint64_t start);
+/* A build from before air limits has one argument less, and does not see the last. */
+typedef uint64_t opening(uint8_t *memory, size_t length, size_t n, uint64_t start, size_t limit);
 typedef uint64_t call_on_pair(uint8_t *memory, size_t length, size_t a, size_t b);
 typedef uint64_t call_on_packet(uint8_t *memory, size_t length, size_t k);
 typedef uint64_t call_alone(uint8_t *memory, size_t length);
@@ -87,7 +88,7 @@ static double now(void) {
 
 /* Sixteen stations, every link up, and the requests of some in the air. */
 static void fill_network(struct build *b) {
-    if (SRP_REFUSED(b->open(b->network, SRP_LENGTH, STATIONS, 1))) fail("open");
+    if (SRP_REFUSED(b->open(b->network, SRP_LENGTH, STATIONS, 1, SRP_MAX_PACKETS))) fail("open");
     for (size_t i = 0; i < STATIONS; i++)
         for (size_t j = i + 1; j < STATIONS; j++)
             if (SRP_REFUSED(b->up(b->network, SRP_LENGTH, i, j))) fail("up");
@@ -97,7 +98,7 @@ static void fill_network(struct build *b) {
 
 /* Every station of a ring with chords sought 0, and all was delivered; in `broken` 0 lost its neighbour 1, and the errors are in the air. */
 static void fill_routes(struct build *b) {
-    if (SRP_REFUSED(b->open(b->routes, SRP_LENGTH, STATIONS, 1))) fail("open");
+    if (SRP_REFUSED(b->open(b->routes, SRP_LENGTH, STATIONS, 1, SRP_MAX_PACKETS))) fail("open");
     for (size_t i = 0; i < STATIONS; i++) {
         b->up(b->routes, SRP_LENGTH, i, (i + 1) % STATIONS);
         b->up(b->routes, SRP_LENGTH, i, (i + 3) % STATIONS);

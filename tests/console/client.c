@@ -1,6 +1,7 @@
 /*
  * A client in C of the entry points in include/srp.h. It holds them to 01, 02 and docs/LAYOUT.md: 01's example, the search of a row,
- * previews, New label, scripts, refusals, serials, memory of another version or damaged, and the places that are free.
+ * previews, New label, scripts, refusals, serials, air limits, runs and rehearsals, memory of another version or damaged, and the places
+ * that are free.
  *
  *     client [STEP]     damages every STEP-th byte of the memory in turn; 1 if not given
  *
@@ -110,9 +111,9 @@ static uint64_t next_random(uint64_t *state)
 /* ---- Calls ---------------------------------------------------------------------------------- */
 
 /* Every call on memory, by a number: the script's kinds 1 to 9, then these. */
-enum { OPEN = 10, DRAIN, SIZE, AIR, LINK, LABEL, ROW, RECORD, STATION, PACKET, PREVIEW, KINDS };
+enum { OPEN = 10, DRAIN, RUN, SIZE, AIR, LIMIT, LINK, LABEL, ROW, RECORD, STATION, PACKET, PREVIEW, KINDS };
 
-/* Open has n as a and start as b. */
+/* Open has n as a, start as b, and the limit 128. A run is of one event, an Expire of a and b. */
 struct call {
     int kind;
     size_t a, b;
@@ -120,7 +121,7 @@ struct call {
 
 static bool shows(int kind)
 {
-    return kind == SRP_EVENT_TRACE || kind > DRAIN;
+    return kind == SRP_EVENT_TRACE || kind > RUN;
 }
 
 /* The bytes that a call writes to its output slice. */
@@ -137,6 +138,14 @@ static size_t shown_bytes(int kind)
     }
 }
 
+static uint64_t run_expire(uint8_t *memory, size_t length, size_t a, size_t t)
+{
+    const uint8_t kind = SRP_EVENT_EXPIRE, operands[] = {(uint8_t)a, (uint8_t)t};
+    uint64_t line;
+
+    return srp_run(memory, length, &kind, 1, operands, 2, &line, 1);
+}
+
 static uint64_t make(struct call c, uint8_t *memory, size_t length, uint8_t *out, size_t out_length)
 {
     switch (c.kind) {
@@ -149,10 +158,12 @@ static uint64_t make(struct call c, uint8_t *memory, size_t length, uint8_t *out
     case SRP_EVENT_LOSE: return srp_lose(memory, length, c.a);
     case SRP_EVENT_DUPLICATE: return srp_duplicate(memory, length, c.a);
     case SRP_EVENT_TRACE: return srp_trace(memory, length, c.a, c.b);
-    case OPEN: return srp_open(memory, length, c.a, c.b);
+    case OPEN: return srp_open(memory, length, c.a, c.b, SRP_MAX_PACKETS);
     case DRAIN: return srp_drain(memory, length);
+    case RUN: return run_expire(memory, length, c.a, c.b);
     case SIZE: return srp_size(memory, length);
     case AIR: return srp_air(memory, length);
+    case LIMIT: return srp_limit(memory, length);
     case LINK: return srp_link(memory, length, c.a, c.b);
     case LABEL: return srp_label(memory, length, c.a, c.b, out, out_length);
     case ROW: return srp_row(memory, length, c.a, c.b, out, out_length);
@@ -180,15 +191,21 @@ static uint64_t call_on(struct desk *d, struct call c, size_t length, size_t out
     return make(c, d->memory, length, d->out, out_length);
 }
 
-static struct desk *opened(size_t n, uint64_t start)
+static struct desk *opened_under(size_t n, uint64_t start, size_t limit)
 {
     struct desk *d = allocated(sizeof *d);
 
     memset(d->memory, 0xa5, LENT);
     memset(d->out, 0x5a, OUT);
-    CHECK_EQ(call_on(d, (struct call){OPEN, n, start}, LENT, OUT), SRP_DONE);
+    memcpy(d->before, d->memory, LENT);
+    CHECK_EQ(srp_open(d->memory, LENT, n, start, limit), SRP_DONE);
     CHECK_SAME(d->memory + SRP_LENGTH, d->before + SRP_LENGTH, GUARD);
     return d;
+}
+
+static struct desk *opened(size_t n, uint64_t start)
+{
+    return opened_under(n, start, SRP_MAX_PACKETS);
 }
 
 /* A call that is turned down: the number, no count, and every byte as it was. */
@@ -276,9 +293,11 @@ static bool is_pair(const uint8_t *bytes, unsigned n, unsigned i, unsigned t)
 /* Whether bytes have a meaning and are memory in range. */
 static bool in_range(const uint8_t *bytes)
 {
-    unsigned n = bytes[SRP_N_AT], air = bytes[SRP_AIR_AT];
+    unsigned n = bytes[SRP_N_AT], air = bytes[SRP_AIR_AT], limit = bytes[SRP_LIMIT_AT];
 
-    if (bytes[SRP_VERSION_AT] != SRP_VERSION || n < SRP_MIN_STATIONS || n > SRP_MAX_STATIONS || air > SRP_MAX_PACKETS)
+    if (bytes[SRP_VERSION_AT] != SRP_VERSION || n < SRP_MIN_STATIONS || n > SRP_MAX_STATIONS)
+        return false;
+    if (limit > SRP_MAX_PACKETS || air > limit)
         return false;
     for (unsigned i = 0; i < n; i++) {
         const uint8_t *station = bytes + SRP_STATION_AT(i);
@@ -360,11 +379,12 @@ static void settle(uint8_t *bytes)
 }
 
 /* The bytes of a fresh network. */
-static void fresh(uint8_t *bytes, unsigned n, uint64_t start)
+static void fresh(uint8_t *bytes, unsigned n, uint64_t start, unsigned limit)
 {
     memset(bytes, 0, SRP_LENGTH);
     bytes[SRP_VERSION_AT] = SRP_VERSION;
     bytes[SRP_N_AT] = (uint8_t)n;
+    bytes[SRP_LIMIT_AT] = (uint8_t)limit;
     for (unsigned place = 0; place < SRP_PLACE(SRP_MAX_STATIONS, 0); place++) {
         put_label(bytes + SRP_LABEL_AT(0, place), 0, 1, 1);
         put_label(bytes + SRP_RECORD_AT(0, place) + SRP_RECORD_CACHED, 0, 1, 1);
@@ -423,12 +443,17 @@ static const struct step example[EXAMPLE] = {
     {{SRP_EVENT_TRACE, 2, 0}, 131, 2, 0},
 };
 
-static struct desk *example_after(size_t steps)
+static struct desk *example_under(size_t steps, size_t limit)
 {
-    struct desk *d = opened(3, 1);
+    struct desk *d = opened_under(3, 1, limit);
 
     play(d, example, 0, steps);
     return d;
+}
+
+static struct desk *example_after(size_t steps)
+{
+    return example_under(steps, SRP_MAX_PACKETS);
 }
 
 /*
@@ -498,6 +523,7 @@ static void check_shown(struct desk *d)
 
     CHECK_EQ(srp_size(d->memory, LENT), result(SRP_DONE, n));
     CHECK_EQ(srp_air(d->memory, LENT), result(SRP_DONE, air));
+    CHECK_EQ(srp_limit(d->memory, LENT), result(SRP_DONE, d->memory[SRP_LIMIT_AT]));
     for (unsigned i = 0; i < n; i++) {
         check_bytes_shown(d, (struct call){STATION, i, 0}, SRP_STATION_AT(i));
         for (unsigned t = 0; t < n; t++)
@@ -618,7 +644,7 @@ static void test_exact_slice(void)
     struct desk *d = example_after(EXAMPLE);
     uint8_t *memory = allocated(SRP_LENGTH);
 
-    CHECK_EQ(srp_open(memory, SRP_LENGTH, 3, 1), SRP_DONE);
+    CHECK_EQ(srp_open(memory, SRP_LENGTH, 3, 1, SRP_MAX_PACKETS), SRP_DONE);
     for (size_t k = 0; k < EXAMPLE; k++)
         CHECK_EQ(make(example[k].call, memory, SRP_LENGTH, d->out, OUT), result(example[k].answer, example[k].count));
     CHECK_SAME(memory, d->memory, SRP_LENGTH);
@@ -729,14 +755,14 @@ static void test_open(void)
     uint8_t *wanted = allocated(SRP_LENGTH);
     uint8_t *memory = allocated(SRP_LENGTH);
 
-    CHECK_EQ(srp_open(memory, SRP_LENGTH, 2, 1), SRP_DONE);
-    fresh(wanted, 2, 1);
+    CHECK_EQ(srp_open(memory, SRP_LENGTH, 2, 1, SRP_MAX_PACKETS), SRP_DONE);
+    fresh(wanted, 2, 1, SRP_MAX_PACKETS);
     CHECK_SAME(memory, wanted, SRP_LENGTH);
     for (unsigned n = SRP_MIN_STATIONS; n <= SRP_MAX_STATIONS; n++) {
         uint64_t start = n % 2 ? UINT64_MAX : 0x0123456789abcdefu;
         struct desk *d = opened(n, start);
 
-        fresh(wanted, n, start);
+        fresh(wanted, n, start, SRP_MAX_PACKETS);
         CHECK_SAME(d->memory, wanted, SRP_LENGTH);
         check_left(__LINE__, d);
         if (n == 2 || n == SRP_MAX_STATIONS)
@@ -1398,37 +1424,48 @@ static void fill_air(struct desk *d, unsigned packets)
     }
 }
 
-/* 7: of Duplicate, Solicit, Deliver, its preview and Down. What sends no more is not turned down. */
-static void test_air_full(void)
+/* 7, under a limit of 2 or more: of Duplicate, Solicit, Deliver, its preview and Down. What sends no more is not turned down. */
+static void check_air_full(unsigned limit)
 {
-    struct desk *d = example_after(3);
+    unsigned long failures = tally.failures;
+    struct desk *d = example_under(3, limit);
 
-    fill_air(d, SRP_MAX_PACKETS);
+    fill_air(d, limit);
     check_shown(d);
     CHECK_REFUSED(d, SRP_AIR_FULL, SRP_EVENT_DUPLICATE, 0, 0);
-    CHECK_REFUSED(d, SRP_AIR_FULL, SRP_EVENT_DUPLICATE, SRP_MAX_PACKETS - 1, 0);
-    CHECK_REFUSED(d, SRP_NO_PACKET, SRP_EVENT_DUPLICATE, SRP_MAX_PACKETS, 0);
+    CHECK_REFUSED(d, SRP_AIR_FULL, SRP_EVENT_DUPLICATE, limit - 1, 0);
+    CHECK_REFUSED(d, SRP_NO_PACKET, SRP_EVENT_DUPLICATE, limit, 0);
     CHECK_REFUSED(d, SRP_AIR_FULL, SRP_EVENT_SOLICIT, 0, 1);
     CHECK_REFUSED(d, SRP_AIR_FULL, SRP_EVENT_DELIVER, 0, 0); /* 1 would send two on */
     CHECK_REFUSED(d, SRP_AIR_FULL, PREVIEW, 0, 0);
     check_refused(__LINE__, d, (struct call){PREVIEW, 0, 0}, LENT, 0, SRP_AIR_FULL);
-    check_refused(__LINE__, d, (struct call){PREVIEW, SRP_MAX_PACKETS, 0}, LENT, 0, SRP_NO_PACKET);
-    CHECK_EQ(call_on(d, (struct call){SRP_EVENT_LOSE, SRP_MAX_PACKETS - 1, 0}, LENT, OUT), SRP_DONE);
+    check_refused(__LINE__, d, (struct call){PREVIEW, limit, 0}, LENT, 0, SRP_NO_PACKET);
+    CHECK_EQ(call_on(d, (struct call){SRP_EVENT_LOSE, limit - 1, 0}, LENT, OUT), SRP_DONE);
     CHECK_PREVIEW(d, 0, SRP_REQUEST_SENT_ON, 2, 0, 1, 1, 0, 0);
     CHECK_EQ(call_on(d, (struct call){SRP_EVENT_DELIVER, 0, 0}, LENT, OUT), result(SRP_REQUEST_SENT_ON, 2));
     check_left(__LINE__, d);
-    CHECK_EQ(srp_air(d->memory, LENT), result(SRP_DONE, SRP_MAX_PACKETS));
+    CHECK_EQ(srp_air(d->memory, LENT), result(SRP_DONE, limit));
     /* Down drops what is between the two, so nothing is over. */
     CHECK_EQ(call_on(d, (struct call){SRP_EVENT_DOWN, 1, 2}, LENT, OUT), SRP_DONE);
     CHECK_EQ(srp_air(d->memory, LENT), result(SRP_DONE, 1));
-    fill_air(d, SRP_MAX_PACKETS);
+    fill_air(d, limit);
     CHECK_EQ(call_on(d, (struct call){SRP_EVENT_GIVE_UP, 2, 0}, LENT, OUT), SRP_DONE);
     CHECK_EQ(call_on(d, (struct call){SRP_EVENT_SOLICIT, 2, 0}, LENT, OUT), SRP_DONE); /* no neighbour, nothing sent */
-    CHECK_PREVIEW(d, 5, SRP_REQUEST_ANSWERED, 1, 1, 0, 1, 0, 0);
-    CHECK_EQ(call_on(d, (struct call){SRP_EVENT_DELIVER, 5, 0}, LENT, OUT), result(SRP_REQUEST_ANSWERED, 1));
-    CHECK_EQ(srp_air(d->memory, LENT), result(SRP_DONE, SRP_MAX_PACKETS));
+    CHECK_PREVIEW(d, limit / 2, SRP_REQUEST_ANSWERED, 1, 1, 0, 1, 0, 0);
+    CHECK_EQ(call_on(d, (struct call){SRP_EVENT_DELIVER, limit / 2, 0}, LENT, OUT), result(SRP_REQUEST_ANSWERED, 1));
+    CHECK_EQ(srp_air(d->memory, LENT), result(SRP_DONE, limit));
     check_left(__LINE__, d);
+    if (tally.failures != failures)
+        fprintf(stderr, "    under limit %u\n", limit);
     free(d);
+}
+
+static void test_air_full(void)
+{
+    static const unsigned limits[] = {2, 3, 5, 64, 127, SRP_MAX_PACKETS};
+
+    for (size_t k = 0; k < sizeof limits / sizeof *limits; k++)
+        check_air_full(limits[k]);
 }
 
 /* ---- Draining ------------------------------------------------------------------------------- */
@@ -1535,18 +1572,25 @@ static void test_air_over_full(void)
     free(d);
 }
 
-static void test_air_full_for_down(void)
+static void check_air_full_for_down(unsigned limit)
 {
-    struct desk *d = example_after(EXAMPLE);
+    struct desk *d = example_under(EXAMPLE, limit);
 
     CHECK_EQ(call_on(d, (struct call){SRP_EVENT_SOLICIT, 2, 0}, LENT, OUT), result(SRP_DONE, 1));
-    fill_air(d, SRP_MAX_PACKETS);
+    fill_air(d, limit);
     CHECK_REFUSED(d, SRP_AIR_FULL, SRP_EVENT_DOWN, 0, 1); /* 1 would send an error to 2 */
     CHECK_REFUSED(d, SRP_AIR_FULL, SRP_EVENT_DOWN, 1, 0);
     CHECK_EQ(call_on(d, (struct call){SRP_EVENT_LOSE, 0, 0}, LENT, OUT), SRP_DONE);
     CHECK_EQ(call_on(d, (struct call){SRP_EVENT_DOWN, 1, 0}, LENT, OUT), result(SRP_DONE, 1));
     check_left(__LINE__, d);
     free(d);
+}
+
+static void test_air_full_for_down(void)
+{
+    check_air_full_for_down(2);
+    check_air_full_for_down(77);
+    check_air_full_for_down(SRP_MAX_PACKETS);
 }
 
 /* 8: after 4 and before 7. One number less is taken. */
@@ -2272,6 +2316,587 @@ static void test_drain_used_up(void)
     free(d);
 }
 
+/* ---- Air limits ------------------------------------------------------------------------------ */
+
+/* Open that is turned down leaves every byte. */
+static void check_open(int line, struct desk *d, size_t length, size_t n, uint64_t start, size_t limit, uint32_t number)
+{
+    memcpy(d->before, d->memory, LENT);
+    check_eq(line, "the refusal", srp_open(d->memory, length, n, start, limit), number);
+    check_same(line, "memory", d->memory, d->before, LENT);
+}
+
+/* Limits that are over 128, some of them not in 7, 8, 16 or 32 bits. */
+static const size_t high_limits[] = {
+    129, 130, 255, 256, 256 + 128, 65536, (size_t)1 << 32, ((size_t)1 << 32) + 128, SIZE_MAX - 127, SIZE_MAX,
+};
+
+/* Every limit that there is, and 14 above; 1 comes before it. */
+static void test_limits(void)
+{
+    uint8_t *wanted = allocated(SRP_LENGTH);
+    struct desk *d;
+
+    for (unsigned limit = 0; limit <= SRP_MAX_PACKETS; limit++) {
+        d = opened_under(4, 7, limit);
+        fresh(wanted, 4, 7, limit);
+        CHECK_SAME(d->memory, wanted, SRP_LENGTH);
+        CHECK_EQ(srp_limit(d->memory, LENT), result(SRP_DONE, limit));
+        check_left(__LINE__, d);
+        free(d);
+    }
+    d = example_after(3);
+    for (size_t k = 0; k < sizeof high_limits / sizeof *high_limits; k++) {
+        size_t limit = high_limits[k];
+
+        check_open(__LINE__, d, LENT, 3, 1, limit, SRP_LIMIT_TOO_HIGH);
+        check_open(__LINE__, d, SRP_LENGTH, 16, UINT64_MAX, limit, SRP_LIMIT_TOO_HIGH);
+        check_open(__LINE__, d, SRP_LENGTH - 1, 3, 1, limit, SRP_OUT_OF_RANGE);
+        check_open(__LINE__, d, 0, 3, 1, limit, SRP_OUT_OF_RANGE);
+        check_open(__LINE__, d, LENT, 1, 1, limit, SRP_OUT_OF_RANGE);
+        check_open(__LINE__, d, LENT, 17, 1, limit, SRP_OUT_OF_RANGE);
+        check_open(__LINE__, d, LENT, 3, 0, limit, SRP_OUT_OF_RANGE);
+    }
+    free(d);
+    free(wanted);
+}
+
+/* Under the limit 0 whatever would send is turned down, and nothing else is. */
+static void test_limit_zero(void)
+{
+    struct desk *d = opened_under(3, 1, 0);
+
+    CHECK_DONE(d, 0, 0, SRP_EVENT_SOLICIT, 0, 1); /* no neighbour */
+    CHECK_STATION(d, 0, 1, 1, 1, 0);
+    CHECK_DONE(d, 0, 0, SRP_EVENT_GIVE_UP, 0, 0);
+    CHECK_DONE(d, 0, 0, SRP_EVENT_UP, 0, 1);
+    CHECK_REFUSED(d, SRP_AIR_FULL, SRP_EVENT_SOLICIT, 0, 1);
+    CHECK_REFUSED(d, SRP_AIR_FULL, SRP_EVENT_SOLICIT, 1, 2);
+    CHECK_STATION(d, 0, 1, 1, 0, 0);
+    CHECK_DONE(d, 0, 0, SRP_EVENT_SOLICIT, 2, 0);
+    CHECK_REFUSED(d, SRP_IS_ACTIVE, SRP_EVENT_SOLICIT, 2, 0);
+    CHECK_REFUSED(d, SRP_NO_STATION, SRP_EVENT_SOLICIT, 0, 3);
+    CHECK_REFUSED(d, SRP_NO_PACKET, SRP_EVENT_DELIVER, 0, 0);
+    CHECK_REFUSED(d, SRP_NO_PACKET, SRP_EVENT_DUPLICATE, 0, 0);
+    CHECK_REFUSED(d, SRP_NO_PACKET, PREVIEW, 0, 0);
+    put_last_serial(d, 0, UINT64_MAX);
+    CHECK_REFUSED(d, SRP_SERIALS_USED_UP, SRP_EVENT_SOLICIT, 0, 1);
+    put(d->memory + SRP_STATION_AT(0) + SRP_STATION_NUMBER, 4, UINT32_MAX);
+    CHECK_REFUSED(d, SRP_NUMBERS_USED_UP, SRP_EVENT_SOLICIT, 0, 1);
+    check_drain(__LINE__, d, 0, 0);
+    CHECK_DONE(d, 0, 0, SRP_EVENT_DOWN, 1, 0);
+    CHECK_DONE(d, 0, 0, SRP_EVENT_EXPIRE, 1, 0);
+    CHECK_DONE(d, SRP_TRACE_NO_SUCCESSOR, 0, SRP_EVENT_TRACE, 1, 0);
+    CHECK_EQ(srp_limit(d->memory, LENT), result(SRP_DONE, 0));
+    check_shown(d);
+    free(d);
+}
+
+/* 01's example has two packets in the air at most. Under that limit it goes the same way; under one less its first two do not get there. */
+static void test_limit_reached(void)
+{
+    struct desk *d = example_after(EXAMPLE), *again = example_under(EXAMPLE, 2);
+
+    CHECK_EQ(again->memory[SRP_LIMIT_AT], 2);
+    again->memory[SRP_LIMIT_AT] = SRP_MAX_PACKETS;
+    CHECK_SAME(again->memory, d->memory, SRP_LENGTH);
+    free(again);
+    free(d);
+
+    d = example_under(3, 1);
+    CHECK_REFUSED(d, SRP_AIR_FULL, SRP_EVENT_DELIVER, 0, 0);
+    CHECK_REFUSED(d, SRP_AIR_FULL, PREVIEW, 0, 0);
+    CHECK_REFUSED(d, SRP_AIR_FULL, SRP_EVENT_DUPLICATE, 0, 0);
+    CHECK_DONE(d, 0, 0, SRP_EVENT_DOWN, 0, 1);
+    CHECK_PREVIEW(d, 0, SRP_REQUEST_SENT_ON, 1, 0, 1, 1, 0, 0); /* to 2 alone, in the place of what is delivered */
+    CHECK_DONE(d, SRP_REQUEST_SENT_ON, 1, SRP_EVENT_DELIVER, 0, 0);
+    CHECK_DONE(d, SRP_REQUEST_KNOWN, 0, SRP_EVENT_DELIVER, 0, 0);
+    free(d);
+    d = example_under(2, 0);
+    CHECK_REFUSED(d, SRP_AIR_FULL, SRP_EVENT_SOLICIT, 2, 0);
+    free(d);
+
+    /* A reply that is passed on takes the place of the one that came. */
+    d = example_under(6, 2);
+    fill_air(d, 2);
+    CHECK_PREVIEW(d, 0, SRP_REPLY_TAKEN, 1, 1, 1, 2, 1, 0);
+    CHECK_DONE(d, SRP_REPLY_TAKEN, 1, SRP_EVENT_DELIVER, 0, 0);
+    CHECK_EQ(d->memory[SRP_AIR_AT], 2);
+    free(d);
+}
+
+/* Every value of the limit's byte, with 5 packets in the air: what is turned down, and what a network in range keeps. */
+static void test_limit_values(void)
+{
+    struct desk *d = square_after(SQUARE);
+    uint8_t *network = copied(d->memory, LENT);
+
+    for (unsigned limit = 0; limit < 256; limit++) {
+        unsigned long failures = tally.failures;
+
+        memcpy(d->memory, network, LENT);
+        d->memory[SRP_LIMIT_AT] = (uint8_t)limit;
+        if (limit < 5 || limit > SRP_MAX_PACKETS) {
+            check_out_of_range(__LINE__, d, LENT);
+        } else {
+            CHECK_EQ(srp_limit(d->memory, LENT), result(SRP_DONE, limit));
+            if (limit == 5) {
+                CHECK_REFUSED(d, SRP_AIR_FULL, SRP_EVENT_DUPLICATE, 0, 0);
+            } else {
+                CHECK_DONE(d, 0, 0, SRP_EVENT_DUPLICATE, 0, 0);
+                CHECK_EQ(d->memory[SRP_AIR_AT], 6);
+            }
+            CHECK_EQ(d->memory[SRP_LIMIT_AT], limit);
+        }
+        if (tally.failures != failures)
+            fprintf(stderr, "    with limit %u\n", limit);
+    }
+    free(network);
+    free(d);
+}
+
+/* Draining loses what has no room under the limit. */
+static void test_drain_limited(void)
+{
+    struct desk *d = example_under(3, 1);
+
+    check_drain(__LINE__, d, 0, 1);
+    free(d);
+    d = example_under(3, 2);
+    check_drain(__LINE__, d, 5, 0);
+    CHECK_EQ(srp_trace(d->memory, LENT, 2, 0), result(SRP_TRACE_ARRIVED, 2));
+    free(d);
+    d = example_under(3, 9);
+    fill_air(d, 9);
+    check_drain(__LINE__, d, 12, 1);
+    free(d);
+    /* Errors: Down of 3 and 2 sends one, to 1, which would tell 0 and 2. */
+    for (unsigned limit = 0; limit < 3; limit++) {
+        d = line_of_four();
+        d->memory[SRP_LIMIT_AT] = (uint8_t)limit;
+        if (limit == 0) {
+            CHECK_REFUSED(d, SRP_AIR_FULL, SRP_EVENT_DOWN, 3, 2);
+        } else {
+            CHECK_DONE(d, 0, 1, SRP_EVENT_DOWN, 3, 2);
+            check_drain(__LINE__, d, limit == 1 ? 0 : 4, limit == 1);
+        }
+        free(d);
+    }
+}
+
+/* ---- Runs ------------------------------------------------------------------------------------ */
+
+#define UNUSED_LINE 0xa5a5a5a5a5a5a5a5u
+
+/* Events in arrays of their own. */
+struct events {
+    uint8_t *kinds, *operands;
+    size_t count, operands_length;
+};
+
+static struct events no_events(size_t count)
+{
+    struct events e = {allocated(count), allocated(2 * count), count, 2 * count};
+
+    return e;
+}
+
+static struct events events_of(const struct step *steps, size_t count)
+{
+    struct events e = no_events(count);
+
+    for (size_t k = 0; k < count; k++) {
+        e.kinds[k] = (uint8_t)steps[k].call.kind;
+        e.operands[2 * k] = (uint8_t)steps[k].call.a;
+        e.operands[2 * k + 1] = (uint8_t)steps[k].call.b;
+    }
+    return e;
+}
+
+static void free_events(struct events e)
+{
+    free(e.kinds);
+    free(e.operands);
+}
+
+static uint64_t *unused_lines(size_t count)
+{
+    uint64_t *lines = allocated(8 * count);
+
+    for (size_t k = 0; k < count; k++)
+        lines[k] = UNUSED_LINE;
+    return lines;
+}
+
+static uint64_t line_of(uint32_t answer, uint64_t sent, uint64_t air, uint64_t hops)
+{
+    return answer | sent << 32 | air << 40 | hops << 48;
+}
+
+/* The line of a step. */
+static uint64_t line_of_step(struct step s)
+{
+    bool traces = s.call.kind == SRP_EVENT_TRACE;
+
+    return line_of(s.answer, traces ? 0 : s.count, s.air, traces ? s.count : 0);
+}
+
+/* A result with a tally. */
+static uint64_t tallied(uint64_t length, uint64_t calls, uint64_t highest)
+{
+    return length << 16 | calls << 40 | highest << 56;
+}
+
+/* A run in a slice of lines that is as long as said; the events are only read. */
+static uint64_t run_on(struct desk *d, struct events e, size_t length, uint64_t *lines, size_t lines_length)
+{
+    uint8_t *kinds = copied(e.kinds, e.count), *operands = copied(e.operands, e.operands_length);
+    uint64_t r;
+
+    memcpy(d->before, d->memory, LENT);
+    r = srp_run(d->memory, length, kinds, e.count, operands, e.operands_length, lines, lines_length);
+    CHECK_SAME(kinds, e.kinds, e.count);
+    CHECK_SAME(operands, e.operands, e.operands_length);
+    free(kinds);
+    free(operands);
+    return r;
+}
+
+/* A run that tells these steps. */
+static void check_run(int line, struct desk *d, const struct step *steps, size_t count, unsigned highest)
+{
+    struct events e = events_of(steps, count);
+    uint64_t *lines = unused_lines(count + 2);
+    uint64_t r = run_on(d, e, LENT, lines, count + 2);
+
+    check_eq(line, "the run", r, tallied(0, count, highest));
+    check_eq(line, "the answer", SRP_SHORT_ANSWER(r), SRP_DONE);
+    check_eq(line, "the refusal", SRP_REFUSED(r), false);
+    check_eq(line, "calls", SRP_CALLS(r), count);
+    check_eq(line, "highest", SRP_HIGHEST(r), highest);
+    for (size_t k = 0; k < count; k++)
+        check_eq(line, "a line", lines[k], line_of_step(steps[k]));
+    check_eq(line, "past the lines", lines[count] == UNUSED_LINE && lines[count + 1] == UNUSED_LINE, true);
+    check_left(line, d);
+    free(lines);
+    free_events(e);
+}
+
+/* 01's example and the square as runs: the lines and the bytes of the single calls. */
+static void test_run(void)
+{
+    struct desk *d = opened(3, 1), *singly = example_after(EXAMPLE);
+    uint64_t l = line_of(SRP_REQUEST_SENT_ON, 2, 128, 15);
+
+    check_run(__LINE__, d, example, EXAMPLE, 2);
+    CHECK_SAME(d->memory, singly->memory, LENT);
+    free(singly);
+    free(d);
+    d = opened_under(4, 1, 5);
+    singly = square_after(SQUARE);
+    check_run(__LINE__, d, square, SQUARE, 5);
+    singly->memory[SRP_LIMIT_AT] = 5;
+    CHECK_SAME(d->memory, singly->memory, LENT);
+    free(singly);
+    free(d);
+    CHECK_EQ(SRP_LINE_ANSWER(l), SRP_REQUEST_SENT_ON);
+    CHECK_EQ(SRP_LINE_SENT(l), 2);
+    CHECK_EQ(SRP_LINE_AIR(l), 128);
+    CHECK_EQ(SRP_LINE_HOPS(l), 15);
+}
+
+/* No events: the tally of none, whatever is in the air, and no line. The free places are written, as by any run. */
+static void test_run_of_nothing(void)
+{
+    struct desk *d = square_after(SQUARE);
+    uint8_t *network = copied(d->memory, LENT);
+
+    check_run(__LINE__, d, NULL, 0, 0);
+    CHECK_SAME(d->memory, d->before, LENT);
+    d->memory[SRP_LINK_AT(1, 0)] = 2;
+    d->memory[SRP_PACKET_AT(5) + SRP_PACKET_KIND] = SRP_ERROR;
+    check_run(__LINE__, d, NULL, 0, 0);
+    CHECK_SAME(d->memory, network, LENT);
+    free(network);
+    free(d);
+}
+
+/* A packet is doubled until the air is full, and then not any more. */
+static void check_run_to_full(unsigned limit)
+{
+    struct desk *d = example_under(3, limit);
+    struct step steps[SRP_MAX_PACKETS + 3];
+    const size_t count = sizeof steps / sizeof *steps;
+
+    for (unsigned k = 0; k < count; k++) {
+        bool room = k + 2 <= limit;
+
+        steps[k] = (struct step){{SRP_EVENT_DUPLICATE, 0, 0}, room ? SRP_DONE : SRP_AIR_FULL, 0, room ? k + 2 : limit};
+    }
+    check_run(__LINE__, d, steps, count, limit);
+    free(d);
+}
+
+static void test_run_to_full(void)
+{
+    check_run_to_full(1);
+    check_run_to_full(2);
+    check_run_to_full(127);
+    check_run_to_full(SRP_MAX_PACKETS);
+}
+
+/*
+ * Runs on what is there: the tally counts refused events too, and the packets after each event, not before it. An exact slice of lines does.
+ */
+static void test_run_goes_on(void)
+{
+    static const struct step refused[] = {
+        {{SRP_EVENT_UP, 0, 2}, 3, 0, 5},      {{SRP_EVENT_DOWN, 0, 1}, 3, 0, 5},      {{SRP_EVENT_SOLICIT, 2, 0}, 4, 0, 5},
+        {{SRP_EVENT_GIVE_UP, 0, 0}, 5, 0, 5}, {{SRP_EVENT_DELIVER, 5, 0}, 6, 0, 5},   {{SRP_EVENT_EXPIRE, 4, 0}, 2, 0, 5},
+        {{SRP_EVENT_TRACE, 2, 2}, 2, 0, 5},   {{SRP_EVENT_DUPLICATE, 0, 0}, 7, 0, 5},
+    };
+    static const struct step fewer[] = {
+        {{SRP_EVENT_LOSE, 4, 0}, 0, 0, 4},
+        {{SRP_EVENT_DELIVER, 0, 0}, 122, 0, 3},
+        {{SRP_EVENT_TRACE, 3, 0}, 131, 2, 3},
+        {{SRP_EVENT_DUPLICATE, 2, 0}, 0, 0, 4},
+    };
+    struct desk *d = square_after(SQUARE);
+    struct events e = events_of(fewer, 4);
+    uint64_t *lines = unused_lines(4);
+
+    d->memory[SRP_LIMIT_AT] = 5;
+    check_run(__LINE__, d, refused, sizeof refused / sizeof *refused, 5);
+    CHECK_SAME(d->memory, d->before, LENT);
+    check_run(__LINE__, d, fewer, 4, 4);
+    free(d);
+    d = square_after(SQUARE);
+    CHECK_EQ(run_on(d, e, SRP_LENGTH, lines, 4), tallied(0, 4, 4));
+    CHECK_EQ(lines[3], line_of_step(fewer[3]));
+    free(lines);
+    free_events(e);
+    free(d);
+}
+
+/* A run that is turned down: the number alone, and every byte and line as it was. */
+static void check_run_refused(int line, struct desk *d, struct events e, size_t length, size_t lines_length, uint32_t number)
+{
+    uint64_t *lines = unused_lines(lines_length);
+
+    check_eq(line, "the refusal", run_on(d, e, length, lines, lines_length), number);
+    check_same(line, "memory", d->memory, d->before, LENT);
+    for (size_t k = 0; k < lines_length; k++)
+        check_eq(line, "a line", lines[k], UNUSED_LINE);
+    free(lines);
+}
+
+/* 10, 1, 11, 12. */
+static void test_run_refused(void)
+{
+    struct desk *d = example_after(3);
+    struct events e = events_of(example, EXAMPLE), most = no_events(SRP_MAX_EVENTS + 1);
+
+    memset(most.kinds, SRP_EVENT_TRACE, most.count);
+    memset(most.operands, 0, most.operands_length);
+    check_run_refused(__LINE__, d, most, LENT, SRP_MAX_EVENTS + 1, SRP_SCRIPT_SIZE);
+    check_run_refused(__LINE__, d, most, 0, 0, SRP_SCRIPT_SIZE);
+    most.count = SRP_MAX_EVENTS;
+    check_run_refused(__LINE__, d, most, LENT, SRP_MAX_EVENTS, SRP_SCRIPT_SIZE);
+    most.operands_length = 2 * SRP_MAX_EVENTS;
+    check_run_refused(__LINE__, d, most, LENT, SRP_MAX_EVENTS - 1, SRP_NO_ROOM);
+    free_events(most);
+
+    e.operands_length--;
+    check_run_refused(__LINE__, d, e, LENT, EXAMPLE, SRP_SCRIPT_SIZE);
+    check_run_refused(__LINE__, d, e, SRP_LENGTH - 1, 0, SRP_SCRIPT_SIZE);
+    e.operands_length = 0;
+    check_run_refused(__LINE__, d, e, LENT, EXAMPLE, SRP_SCRIPT_SIZE);
+    e.operands_length = 2 * EXAMPLE;
+    e.count = EXAMPLE - 1;
+    check_run_refused(__LINE__, d, e, LENT, EXAMPLE, SRP_SCRIPT_SIZE);
+    e.count = EXAMPLE;
+    check_run_refused(__LINE__, d, e, LENT, EXAMPLE - 1, SRP_NO_ROOM);
+    check_run_refused(__LINE__, d, e, LENT, 0, SRP_NO_ROOM);
+    e.kinds[8] = 10;
+    check_run_refused(__LINE__, d, e, LENT, EXAMPLE, SRP_NO_EVENT);
+    e.kinds[8] = 0;
+    check_run_refused(__LINE__, d, e, LENT, 0, SRP_NO_EVENT);
+    e.kinds[8] = SRP_EVENT_TRACE;
+    e.operands[7] = 1;
+    check_run_refused(__LINE__, d, e, LENT, 0, SRP_NO_EVENT);
+    check_run_refused(__LINE__, d, e, SRP_LENGTH - 1, 0, SRP_OUT_OF_RANGE);
+    check_run_refused(__LINE__, d, e, 0, EXAMPLE, SRP_OUT_OF_RANGE);
+    d->memory[SRP_LIMIT_AT] = 129;
+    check_run_refused(__LINE__, d, e, LENT, 0, SRP_OUT_OF_RANGE);
+    e.operands[7] = 0;
+    check_run_refused(__LINE__, d, e, LENT, EXAMPLE, SRP_OUT_OF_RANGE);
+    d->memory[SRP_LIMIT_AT] = 0; /* one packet is in the air */
+    check_run_refused(__LINE__, d, e, LENT, EXAMPLE, SRP_OUT_OF_RANGE);
+    free_events(e);
+    free(d);
+}
+
+/*
+ * 02: with the highest count as the limit every event tells the same, with one less the first that led to it is answered 7. Asked of the
+ * square, and of the square after each of its steps, where packets are in the air already.
+ */
+static void test_highest(void)
+{
+    for (size_t from = 0; from < SQUARE; from++) {
+        struct desk *d = square_after(from);
+        uint8_t *network = copied(d->memory, LENT);
+        struct events e = events_of(square + from, SQUARE - from);
+        uint64_t *lines = unused_lines(SQUARE), *again = unused_lines(SQUARE);
+        uint64_t r = run_on(d, e, LENT, lines, SQUARE);
+        size_t first = 0;
+
+        CHECK_EQ(SRP_HIGHEST(r), 5);
+        memcpy(d->memory, network, LENT);
+        d->memory[SRP_LIMIT_AT] = 5;
+        CHECK_EQ(run_on(d, e, LENT, again, SQUARE), r);
+        CHECK_EQ(memcmp(lines, again, 8 * SQUARE), 0);
+        while (SRP_LINE_AIR(lines[first]) < 5)
+            first++;
+        memcpy(d->memory, network, LENT);
+        d->memory[SRP_LIMIT_AT] = 4;
+        if (network[SRP_AIR_AT] > 4) {
+            CHECK_EQ(run_on(d, e, LENT, again, SQUARE), SRP_OUT_OF_RANGE);
+        } else {
+            CHECK_EQ(SRP_SHORT_ANSWER(run_on(d, e, LENT, again, SQUARE)), SRP_DONE);
+            CHECK_EQ(memcmp(lines, again, 8 * first), 0);
+            CHECK_EQ(SRP_LINE_ANSWER(lines[first]), SRP_DONE);
+            CHECK_EQ(SRP_LINE_ANSWER(again[first]), SRP_AIR_FULL);
+        }
+        free(lines);
+        free(again);
+        free_events(e);
+        free(network);
+        free(d);
+    }
+}
+
+/* ---- Rehearsals ------------------------------------------------------------------------------ */
+
+/* What 01 prints of its example, and what it is under the limits 1 and 0. */
+static const char example_text[] =
+    "0 1 0 1 0 0 0 0\n1 1 1 2 0 0 0 0\n2 3 2 0 0 1 1 0\n3 6 0 0 103 2 2 0\n4 6 0 0 102 1 2 0\n5 7 0 0 0 0 1 0\n"
+    "6 6 0 0 115 1 1 0\n7 6 0 0 115 0 0 0\n8 9 2 0 131 0 0 2\nL 1 0 1 1 2 0\nL 2 0 1 2 3 1\n";
+static const char text_under_1[] =
+    "0 1 0 1 0 0 0 0\n1 1 1 2 0 0 0 0\n2 3 2 0 0 1 1 0\n3 6 0 0 7 0 1 0\n4 6 0 0 7 0 1 0\n5 7 0 0 0 0 0 0\n"
+    "6 6 0 0 6 0 0 0\n7 6 0 0 6 0 0 0\n8 9 2 0 132 0 0 0\n";
+static const char text_under_0[] =
+    "0 1 0 1 0 0 0 0\n1 1 1 2 0 0 0 0\n2 3 2 0 7 0 0 0\n3 6 0 0 6 0 0 0\n4 6 0 0 6 0 0 0\n5 7 0 0 6 0 0 0\n"
+    "6 6 0 0 6 0 0 0\n7 6 0 0 6 0 0 0\n8 9 2 0 132 0 0 0\n";
+
+/* A rehearsal into a slice of its own; the script is only read. */
+static uint64_t rehearse(const uint8_t *script, size_t length, size_t limit, uint8_t *out, size_t out_length)
+{
+    uint8_t *own = copied(script, length);
+    uint64_t r = srp_rehearse(own, length, limit, out, out_length);
+
+    CHECK_SAME(own, script, length);
+    free(own);
+    return r;
+}
+
+static void check_rehearsal(int line, const uint8_t *script, size_t length, size_t limit, const char *text, unsigned calls, unsigned highest)
+{
+    size_t room = SRP_PRINTOUT_BYTES, wide = strlen(text);
+    uint8_t *out = memset(allocated(room), 0xa5, room), *wanted = copied(out, room);
+    uint64_t r = rehearse(script, length, limit, out, room);
+
+    memcpy(wanted, text, wide);
+    check_eq(line, "the rehearsal", r, tallied(wide, calls, highest));
+    check_eq(line, "the answer", SRP_SHORT_ANSWER(r), SRP_DONE);
+    check_eq(line, "the refusal", SRP_REFUSED(r), false);
+    check_eq(line, "the text's length", SRP_TEXT_LENGTH(r), wide);
+    check_eq(line, "calls", SRP_CALLS(r), calls);
+    check_eq(line, "highest", SRP_HIGHEST(r), highest);
+    check_same(line, "the text", out, wanted, room);
+    free(wanted);
+    free(out);
+}
+
+static void test_rehearse(void)
+{
+    uint8_t script[64];
+    size_t length = bytes_of(example_script, script);
+
+    check_rehearsal(__LINE__, script, length, SRP_MAX_PACKETS, example_text, EXAMPLE, 2);
+    check_rehearsal(__LINE__, script, length, 2, example_text, EXAMPLE, 2);
+    check_rehearsal(__LINE__, script, length, 1, text_under_1, EXAMPLE, 1);
+    check_rehearsal(__LINE__, script, length, 0, text_under_0, EXAMPLE, 0);
+    length = bytes_of("02 0000 0100000000000000", script);
+    check_rehearsal(__LINE__, script, length, 128, "", 0, 0);
+    length = bytes_of("02 0100 ffffffffffffffff 09 ffff", script);
+    check_rehearsal(__LINE__, script, length, 7, "0 9 255 255 2 0 0 0\n", 1, 0);
+}
+
+/* A rehearsal that is turned down: the number alone, and every byte as it was. */
+static void check_rehearsal_refused(int line, const char *digits, size_t limit, size_t room, uint32_t number)
+{
+    uint8_t script[64], *out = memset(allocated(room), 0xa5, room), *before = copied(out, room);
+    size_t length = bytes_of(digits, script);
+
+    check_eq(line, "the refusal", rehearse(script, length, limit, out, room), number);
+    check_same(line, "out", out, before, room);
+    free(before);
+    free(out);
+}
+
+/* 9, 10, 1, 11, 14, 12. */
+static void test_rehearse_refused(void)
+{
+    static const struct {
+        const char *digits;
+        uint32_t number;
+    } scripts[] = {
+        {"", SRP_SCRIPT_SHORT},
+        {"02 0000 01000000000000", SRP_SCRIPT_SHORT},
+        {"02 0100 0100000000000000 01 00", SRP_SCRIPT_SIZE},
+        {"00 0000 0000000000000000 00", SRP_SCRIPT_SIZE},
+        {"02 0110 0100000000000000", SRP_SCRIPT_SIZE},
+        {"01 0000 0100000000000000", SRP_OUT_OF_RANGE},
+        {"11 0100 0100000000000000 0a 0000", SRP_OUT_OF_RANGE},
+        {"02 0000 0000000000000000", SRP_OUT_OF_RANGE},
+        {"02 0100 0100000000000000 0a 0000", SRP_NO_EVENT},
+        {"02 0100 0100000000000000 04 0001", SRP_NO_EVENT},
+    };
+    const size_t room = SRP_PRINTOUT_BYTES;
+
+    for (size_t k = 0; k < sizeof scripts / sizeof *scripts; k++) {
+        check_rehearsal_refused(__LINE__, scripts[k].digits, SRP_MAX_PACKETS, room, scripts[k].number);
+        check_rehearsal_refused(__LINE__, scripts[k].digits, SRP_MAX_PACKETS + 1, room - 1, scripts[k].number);
+        check_rehearsal_refused(__LINE__, scripts[k].digits, SIZE_MAX, 0, scripts[k].number);
+    }
+    for (size_t k = 0; k < sizeof high_limits / sizeof *high_limits; k++) {
+        check_rehearsal_refused(__LINE__, example_script, high_limits[k], room, SRP_LIMIT_TOO_HIGH);
+        check_rehearsal_refused(__LINE__, example_script, high_limits[k], 0, SRP_LIMIT_TOO_HIGH);
+    }
+    check_rehearsal_refused(__LINE__, example_script, SRP_MAX_PACKETS, room - 1, SRP_NO_ROOM);
+    check_rehearsal_refused(__LINE__, example_script, 0, sizeof example_text, SRP_NO_ROOM); /* the text would fit */
+    check_rehearsal_refused(__LINE__, "02 0000 0100000000000000", 0, 0, SRP_NO_ROOM);
+}
+
+/* As many events as there may be, with the longest lines that two stations and no packets have. */
+static void test_rehearse_longest(void)
+{
+    const size_t e = SRP_MAX_EVENTS;
+    uint8_t *script = allocated(SRP_SCRIPT_BYTES(e));
+    char *text = allocated(24 * e), *end = text;
+
+    script[0] = 2;
+    put(script + 1, 2, e);
+    put(script + 3, 8, 1);
+    memset(script + 11, SRP_EVENT_TRACE, e);
+    memset(script + 11 + e, 0xff, 2 * e);
+    for (size_t k = 0; k < e; k++)
+        end += sprintf(end, "%zu 9 255 255 2 0 0 0\n", k);
+    check_rehearsal(__LINE__, script, SRP_SCRIPT_BYTES(e), SRP_MAX_PACKETS, text, SRP_MAX_EVENTS, 0);
+    free(text);
+    free(script);
+}
+
 /* ---- Damaged memory ------------------------------------------------------------------------- */
 
 /* A byte of the square after its last step, and a value that it must not have. */
@@ -2285,8 +2910,9 @@ static const struct wrong_byte meaningless[] = {
     {SRP_VERSION_AT, 0},
     {SRP_VERSION_AT, 4}, /* as many stations as there are */
     {SRP_VERSION_AT, 16},
-    {SRP_VERSION_AT, 17}, /* the version before */
-    {SRP_VERSION_AT, 19},
+    {SRP_VERSION_AT, 17},
+    {SRP_VERSION_AT, 18}, /* the version before */
+    {SRP_VERSION_AT, 20},
     {SRP_VERSION_AT, 255},
     {SRP_N_AT, 17},
     {SRP_N_AT, 255},
@@ -2352,6 +2978,11 @@ static const struct wrong_byte out_of_range[] = {
     {SRP_PACKET_AT(1) + SRP_PACKET_LABEL + SRP_LABEL_D, 2},
     {SRP_PACKET_AT(4) + SRP_PACKET_NUMBER, 0},
     {SRP_AIR_AT, 6},
+    {SRP_LIMIT_AT, 129},
+    {SRP_LIMIT_AT, 128 + 64},
+    {SRP_LIMIT_AT, 255},
+    {SRP_LIMIT_AT, 4}, /* 5 packets are in the air */
+    {SRP_LIMIT_AT, 0},
 };
 
 static void check_wrong_bytes(const struct wrong_byte *bytes, size_t count)
@@ -2447,7 +3078,7 @@ static const struct call trials[] = {
     {SRP_EVENT_DUPLICATE, 0, 0}, {SRP_EVENT_DUPLICATE, 3, 0}, {SRP_EVENT_TRACE, 3, 0},   {SRP_EVENT_TRACE, 1, 0},   {LABEL, 3, 0},
     {ROW, 3, 0},                 {RECORD, 2, 3},              {STATION, 3, 0},           {PACKET, 4, 0},            {LINK, 2, 3},
     {PREVIEW, 0, 0},             {PREVIEW, 1, 0},             {PREVIEW, 2, 0},           {PREVIEW, 3, 0},           {PREVIEW, 4, 0},
-    {DRAIN, 0, 0},
+    {DRAIN, 0, 0},               {RUN, 3, 0},                 {RUN, 3, 4},               {LIMIT, 0, 0},
 };
 #define TRIALS (sizeof trials / sizeof *trials)
 
@@ -2740,6 +3371,20 @@ int main(int argc, char **argv)
     test_deliver_used_up();
     test_full_and_used_up();
     test_drain_used_up();
+    test_limits();
+    test_limit_zero();
+    test_limit_reached();
+    test_limit_values();
+    test_drain_limited();
+    test_run();
+    test_run_of_nothing();
+    test_run_to_full();
+    test_run_goes_on();
+    test_run_refused();
+    test_highest();
+    test_rehearse();
+    test_rehearse_refused();
+    test_rehearse_longest();
     test_version();
     test_wrong_bytes();
     test_own_row();

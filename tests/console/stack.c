@@ -19,13 +19,14 @@ struct frame {
     size_t script_length;
     uint8_t kinds[SRP_MAX_EVENTS];
     uint8_t operands[2 * SRP_MAX_EVENTS];
-    uint8_t out[ROOM];
+    uint64_t lines[SRP_MAX_EVENTS];
+    uint8_t out[SRP_PRINTOUT_BYTES];
     size_t a, b, k;
     uint64_t result;
     void (*call)(struct frame *);
 };
 
-static void call_open(struct frame *f) { f->result = srp_open(f->memory, SRP_LENGTH, 16, 1); }
+static void call_open(struct frame *f) { f->result = srp_open(f->memory, SRP_LENGTH, 16, 1, SRP_MAX_PACKETS); }
 static void call_up(struct frame *f) { f->result = srp_up(f->memory, SRP_LENGTH, f->a, f->b); }
 static void call_down(struct frame *f) { f->result = srp_down(f->memory, SRP_LENGTH, f->a, f->b); }
 static void call_solicit(struct frame *f) { f->result = srp_solicit(f->memory, SRP_LENGTH, f->a, f->b); }
@@ -38,6 +39,7 @@ static void call_drain(struct frame *f) { f->result = srp_drain(f->memory, SRP_L
 static void call_trace(struct frame *f) { f->result = srp_trace(f->memory, SRP_LENGTH, f->a, f->b); }
 static void call_size(struct frame *f) { f->result = srp_size(f->memory, SRP_LENGTH); }
 static void call_air(struct frame *f) { f->result = srp_air(f->memory, SRP_LENGTH); }
+static void call_limit(struct frame *f) { f->result = srp_limit(f->memory, SRP_LENGTH); }
 static void call_link(struct frame *f) { f->result = srp_link(f->memory, SRP_LENGTH, f->a, f->b); }
 static void call_label(struct frame *f) { f->result = srp_label(f->memory, SRP_LENGTH, f->a, f->b, f->out, ROOM); }
 static void call_row(struct frame *f) { f->result = srp_row(f->memory, SRP_LENGTH, f->a, f->b, f->out, ROOM); }
@@ -55,6 +57,14 @@ static void call_script_start(struct frame *f) { f->result = srp_script_start(f-
 static void call_write_script(struct frame *f)
 {
     f->result = srp_write_script(16, 1, f->kinds, SRP_MAX_EVENTS, f->operands, 2 * SRP_MAX_EVENTS, f->out, ROOM);
+}
+static void call_run(struct frame *f)
+{
+    f->result = srp_run(f->memory, SRP_LENGTH, f->kinds, SRP_MAX_EVENTS, f->operands, 2 * SRP_MAX_EVENTS, f->lines, SRP_MAX_EVENTS);
+}
+static void call_rehearse(struct frame *f)
+{
+    f->result = srp_rehearse(f->script, f->script_length, SRP_MAX_PACKETS, f->out, sizeof f->out);
 }
 static void call_nothing(struct frame *f) { f->result = 0; }
 
@@ -114,7 +124,8 @@ static struct {
     {"srp_label", call_label, 0, 0},       {"srp_row", call_row, 0, 0},
     {"srp_record", call_record, 0, 0},     {"srp_station", call_station, 0, 0},
     {"srp_packet", call_packet, 0, 0},     {"srp_write_script", call_write_script, 0, 0},
-    {"srp_read_script", call_read_script, 0, 0},
+    {"srp_read_script", call_read_script, 0, 0}, {"srp_limit", call_limit, 0, 0},
+    {"srp_run", call_run, 0, 0},
 };
 
 static size_t most_deliver;
@@ -160,6 +171,23 @@ static void deliver_all(struct frame *f)
     }
 }
 
+/*
+ * The events that are measured as a run and as a rehearsal, as many as there may be: the ring below, whose station 8 seeks 0, and the errors of a
+ * link that goes down; all is delivered. Traces follow.
+ */
+static void put_events(struct frame *f)
+{
+    memset(f->kinds, SRP_EVENT_TRACE, SRP_MAX_EVENTS);
+    for (size_t i = 0; i < SRP_MAX_EVENTS; i++) f->operands[2 * i] = 8, f->operands[2 * i + 1] = 0;
+    for (size_t i = 0; i < 16; i++) {
+        f->kinds[i] = SRP_EVENT_UP;
+        f->operands[2 * i] = (uint8_t)i, f->operands[2 * i + 1] = (uint8_t)((i + 1) % 16);
+    }
+    f->kinds[16] = SRP_EVENT_SOLICIT;
+    for (size_t i = 17; i < 200; i++) f->kinds[i] = SRP_EVENT_DELIVER, f->operands[2 * i] = 0;
+    f->kinds[100] = SRP_EVENT_DOWN, f->operands[201] = 1;
+}
+
 int main(void)
 {
     static struct frame f;
@@ -181,6 +209,7 @@ int main(void)
     measure(&f, 6);
     measure(&f, 3);
     for (size_t i = 7; i <= 13; i++) measure(&f, i);
+    measure(&f, 17);
     measure(&f, 4);
     f.a = 0, f.b = 2;
     measure(&f, 1);
@@ -188,11 +217,17 @@ int main(void)
     measure(&f, 0);
     deliver_all(&f);
 
-    for (size_t i = 0; i < SRP_MAX_EVENTS; i++) f.kinds[i] = SRP_EVENT_TRACE;
+    put_events(&f);
     measure(&f, 15);
     memcpy(f.script, f.out, ROOM);
     f.script_length = SRP_COUNT(f.result);
     measure(&f, 16);
+    call_open(&f);
+    measure(&f, 18);
+    must(SRP_LINE_ANSWER(f.lines[100]) == SRP_DONE && SRP_LINE_SENT(f.lines[100]) > 0, "the errors of srp_run");
+    must(SRP_LINE_ANSWER(f.lines[199]) == SRP_NO_PACKET, "srp_run, to the last packet");
+    size_t rehearsed = needed_by(&f, call_rehearse);
+    must(!SRP_REFUSED(f.result) && SRP_CALLS(f.result) == SRP_MAX_EVENTS, "srp_rehearse");
 
     printf("bytes of stack:\n");
     report("srp_open", opened);
@@ -200,6 +235,7 @@ int main(void)
     report("srp_drain", most_drain);
     report("srp_preview", most_preview);
     report("srp_trace", most_trace);
+    report("srp_rehearse", rehearsed);
     for (size_t i = 0; i < sizeof calls / sizeof calls[0]; i++) report(calls[i].name, calls[i].most);
     report("srp_script_start", needed_by(&f, call_script_start));
     report("srp_find", needed_by(&f, call_find));

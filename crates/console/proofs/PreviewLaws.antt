@@ -16,10 +16,10 @@ use Rattle.label.specs.declared.Label.{Label}
 use Rattle.model.specs.Memory.{Row}
 use Rattle.model.specs.Preview.{Preview, preview}
 use Rattle.model.proofs.PreviewLaws.{preview-tells}
-use Rattle.layout.specs.Formats.{labelFormat}
-use Rattle.layout.specs.Written.{labelBytes, rowBytes}
+use Rattle.formats.specs.Formats.{labelFormat}
+use Rattle.formats.specs.Written.{labelBytes, rowBytes}
+use Rattle.formats.proofs.EntryLaws.{row-wide}
 use Rattle.layout.specs.Meaning.{storedNetwork}
-use Rattle.layout.proofs.EntryLaws.{row-wide}
 use Rattle.console.specs.Packed.{packed}
 use Rattle.console.specs.Showing.{shownIn}
 use Rattle.console.specs.Previewing.{previewBytes, previewWide, bytesOf, roomFor, previewingIn, tellingPreview, Previews}

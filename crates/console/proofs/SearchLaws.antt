@@ -12,8 +12,8 @@ use Rattle.rows.specs.declared.Row.{Row}
 use Rattle.rows.specs.View.{rowOf}
 use Rattle.rows.specs.Search.{placeOf, lookedAt}
 use Rattle.rows.proofs.RowLaws.{row-length}
-use Rattle.layout.specs.Formats.{rowWide}
-use Rattle.layout.specs.Stored.{storedRow}
+use Rattle.formats.specs.Formats.{rowWide}
+use Rattle.formats.specs.Stored.{storedRow}
 use Rattle.console.specs.Packed.{packed, telling}
 use Rattle.console.specs.Searching.{searching}
 

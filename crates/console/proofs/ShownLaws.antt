@@ -17,12 +17,13 @@ use Rattle.codec.specs.Bytes.{byteAt}
 use Rattle.codec.proofs.FieldLaws.{written-wide}
 use Rattle.model.specs.Memory.{place, pairPlace, linkIn, airLimit}
 use Rattle.model.specs.Calls.{notStation, notPair, notPacket}
-use Rattle.layout.specs.Formats.{labelFormat, labelWide, rowWide, recordFormat, recordWide, stationFormat, stationWide, linkWide, packetWide}
+use Rattle.formats.specs.Formats.{labelFormat, labelWide, rowWide, recordFormat, recordWide, stationFormat, stationWide, linkWide, packetWide}
+use Rattle.formats.specs.Stored.{storedLabel, storedRow, storedRecord, storedStation, storedLink, storedPacket}
+use Rattle.formats.specs.Written.{labelBytes, rowBytes, recordBytes, stationBytes, packetBytes}
+use Rattle.formats.proofs.EntryLaws.{row-wide, packet-wide}
 use Rattle.layout.specs.Places.{sizeAt, stationsAt, linksAt, labelsAt, rowsAt, recordsAt, airAt, packetsAt}
-use Rattle.layout.specs.Stored.{storedLabel, storedRow, storedRecord, storedStation, storedLink, storedPacket, networkIn}
-use Rattle.layout.specs.Written.{labelBytes, rowBytes, recordBytes, stationBytes, packetBytes}
+use Rattle.layout.specs.Stored.{networkIn}
 use Rattle.layout.specs.Meaning.{storedNetwork}
-use Rattle.layout.proofs.EntryLaws.{row-wide, packet-wide}
 use Rattle.layout.proofs.MeaningLaws.{Readable}
 use Rattle.layout.proofs.StoredLaws.{label-at, row-at, record-at, station-at, link-at, packet-at, air-count}
 use Rattle.console.specs.Showing.{showSize, showAir, showLink, showLabel, showRow, showRecord, showStation, showPacket, showPart}

@@ -22,9 +22,17 @@ pub record Stores (bytes : List ℕ) (net : Network) : Type 0 where
   pub network : storedNetwork bytes ≡ net
   pub in-range : memoryInRange net ≡ true
 
--- A call gave r and left the bytes so. Turned down, every byte is as it was. Accepted, the bytes are those of the network after the step
+-- A call that ended so left the bytes so. Turned down, every byte is as it was. Accepted, the bytes are those of the network after the step
 -- (Written.antt: zeros in the free places), the bytes past the layout are kept, and they read back as this network.
+unfoldable pub Leaves : (bytes : List ℕ) → Result Effect → (bytes′ : List ℕ) → Type 0
+Leaves bytes (refused number) bytes′ = bytes′ ≡ bytes
+Leaves bytes (accepted e) bytes′ = (bytes′ ≡ over (networkBytes (e .net)) bytes) × Stores bytes′ (e .net)
+
+-- What it gave: its answer and how many packets it sent.
+unfoldable pub tellingCall : Result Effect → ℕ
+tellingCall (refused number) = packed number 0
+tellingCall (accepted e) = packed (e .answer) (e .sent)
+
+-- A call gave r and left the bytes so.
 unfoldable pub Ends : (bytes : List ℕ) → Result Effect → (r : ℕ) → (bytes′ : List ℕ) → Type 0
-Ends bytes (refused number) r bytes′ = (r ≡ packed number 0) × (bytes′ ≡ bytes)
-Ends bytes (accepted e) r bytes′ =
-    (r ≡ packed (e .answer) (e .sent)) × (bytes′ ≡ over (networkBytes (e .net)) bytes) × Stores bytes′ (e .net)
+Ends bytes result r bytes′ = (r ≡ tellingCall result) × Leaves bytes result bytes′

@@ -7,3 +7,4 @@ pub mod Parts
 pub mod Previewing
 pub mod Searching
 pub mod Made
+pub mod Running

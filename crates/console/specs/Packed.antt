@@ -5,6 +5,7 @@ use lib.Dec.{eqb}
 use Rattle.base.specs.Choice.{if_then_else_}
 use Rattle.base.specs.Results.{Result, refused, accepted, mapped}
 use Rattle.label.specs.Label.{label, Outcome, took, gave}
+use Rattle.model.specs.Tally.{Tally}
 use Rattle.script.specs.Script.{Script}
 
 abbrev pub packed : (answer count : ℕ) → ℕ
@@ -19,6 +20,10 @@ countOf r = r / 4_294_967_296
 -- An answer and two counts: the answer in the lowest 16 bits, then the counts, in 24 bits each.
 abbrev pub packedTwo : (answer first second : ℕ) → ℕ
 packedTwo answer first second = answer + 65_536 * first + 1_099_511_627_776 * second
+
+-- An answer, the length of a text and a tally: the second count is the calls + 65,536 · the highest count.
+abbrev pub packedTally : (answer length : ℕ) → Tally → ℕ
+packedTally answer length t = packedTwo answer length (t .calls + 65_536 * t .highest)
 
 abbrev pub shortAnswerOf : ℕ → ℕ
 shortAnswerOf r = r % 65_536

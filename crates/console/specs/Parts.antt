@@ -6,10 +6,10 @@ use mathlib.Core.List.{List}
 use lib.Dec.{leb, eqb}
 use Rattle.base.specs.Choice.{if_then_else_}
 use Rattle.model.specs.Memory.{place}
-use Rattle.layout.specs.Formats.{labelWide, rowWide, recordWide, stationWide, packetWide}
+use Rattle.formats.specs.Formats.{labelWide, rowWide, recordWide, stationWide, packetWide}
+use Rattle.formats.specs.Stored.{storedLabel, storedRow, storedRecord, storedStation, storedPacket}
+use Rattle.formats.specs.Written.{labelBytes, rowBytes, recordBytes, stationBytes, packetBytes}
 use Rattle.layout.specs.Places.{stationsAt, labelsAt, rowsAt, recordsAt, packetsAt}
-use Rattle.layout.specs.Stored.{storedLabel, storedRow, storedRecord, storedStation, storedPacket}
-use Rattle.layout.specs.Written.{labelBytes, rowBytes, recordBytes, stationBytes, packetBytes}
 
 unfoldable pub partRefusal : (part n count i t : ℕ) → ℕ
 partRefusal part n count i t =

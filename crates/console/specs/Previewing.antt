@@ -8,8 +8,8 @@ use Rattle.codec.specs.Bytes.{littleEndian, putInto}
 use Rattle.label.specs.declared.Label.{Label}
 use Rattle.model.specs.Memory.{Row}
 use Rattle.model.specs.Preview.{Preview, previewing}
-use Rattle.layout.specs.Formats.{labelWide, rowWide}
-use Rattle.layout.specs.Written.{labelBytes, rowBytes}
+use Rattle.formats.specs.Formats.{labelWide, rowWide}
+use Rattle.formats.specs.Written.{labelBytes, rowBytes}
 use Rattle.layout.specs.Meaning.{storedNetwork}
 use Rattle.console.specs.Packed.{packed}
 use Rattle.console.specs.Showing.{shownIn}

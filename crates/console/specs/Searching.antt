@@ -6,8 +6,8 @@ use lib.Dec.{ltb, leb}
 use Rattle.base.specs.Results.{Result, accepted, refuse_when_otherwise_}
 use Rattle.model.specs.Memory.{rowLimit}
 use Rattle.rows.specs.Search.{placeOf, lookedAt}
-use Rattle.layout.specs.Formats.{rowWide}
-use Rattle.layout.specs.Stored.{storedRow}
+use Rattle.formats.specs.Formats.{rowWide}
+use Rattle.formats.specs.Stored.{storedRow}
 
 -- The search for j in the row that stands in the bytes: 1 where they are too few or its count is over the limit, 2 where no network has a station
 -- j. The number told is the place + 65,536 · the places looked at.

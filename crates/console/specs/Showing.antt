@@ -10,8 +10,8 @@ use Rattle.base.specs.Choice.{if_then_else_}
 use Rattle.base.specs.Results.{Result, accepted, refuse_when_otherwise_}
 use Rattle.model.specs.Memory.{Network, labelAt, rowAt, recordAt, linkUp, packetAt, memoryInRange}
 use Rattle.model.specs.Calls.{notStation, notPair, notPacket}
-use Rattle.layout.specs.Formats.{stationOf}
-use Rattle.layout.specs.Written.{labelBytes, rowBytes, recordBytes, stationBytes, packetBytes}
+use Rattle.formats.specs.Formats.{stationOf}
+use Rattle.formats.specs.Written.{labelBytes, rowBytes, recordBytes, stationBytes, packetBytes}
 use Rattle.layout.specs.Meaning.{storedNetwork}
 
 unfoldable pub outOfRange : List ℕ → Bool
@@ -34,6 +34,9 @@ showSize net = accepted (net .n)
 
 unfoldable pub showAir : Network → Result ℕ
 showAir net = accepted (length (net .air))
+
+unfoldable pub showLimit : Network → Result ℕ
+showLimit net = accepted (net .limit)
 
 unfoldable pub showLink : (a b : ℕ) → Network → Result ℕ
 showLink a b net =

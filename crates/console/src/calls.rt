@@ -17,15 +17,15 @@ use layout::places::LENGTH;
 use network::opening::fresh;
 use sandbox::calls;
 
-// Open: fresh memory of n stations. The bytes are not read.
+// Open: fresh memory of n stations, with an air limit. The bytes are not read.
 #[no_mangle]
-pub extern "C" fn srp_open(memory: &mut [u8], n: usize, start: u64) -> u64
-    ensures { λ r. ⌜ Ends (now (memory .entry)) (calling (Open n start) (now (memory .entry))) r (now (memory .exit)) ⌝ }
+pub extern "C" fn srp_open(memory: &mut [u8], n: usize, start: u64, limit: usize) -> u64
+    ensures { λ r. ⌜ Ends (now (memory .entry)) (calling (Open n start limit) (now (memory .entry))) r (now (memory .exit)) ⌝ }
 {
     if memory.len() < LENGTH {
         return 1;
     }
-    finish(memory, calls::open(fresh(0, 0), n, start))
+    finish(memory, calls::open(fresh(0, 0, 0), n, start, limit))
 }
 
 // The call of a kind, 1 to 8. An operand that it does not use is 0.

@@ -11,8 +11,8 @@ use layout::memory::load;
 use layout::memory::write;
 use sandbox::calls;
 
-// Packet 0 is delivered again and again, and lost where Deliver gives 7, until no packet is in the air. In memory that the console's calls made no
-// walk goes in a circle afterwards.
+// Packet 0 is delivered again and again, and lost where Deliver gives 13 or 7, until no packet is in the air. In memory that the console's calls
+// made no walk goes in a circle afterwards.
 #[no_mangle]
 pub extern "C" fn srp_drain(memory: &mut [u8]) -> u64
     ensures drained { λ r. ⌜ DrainsBytes (now (memory .entry)) r (now (memory .exit)) ⌝ }

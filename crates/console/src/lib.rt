@@ -5,19 +5,22 @@ ghost use mathlib.Core.Bool.{false};
 ghost use Prim.Native.Nat.{_≤_, _<_};
 ghost use lib.ListN.{length};
 ghost use Rattle.base.specs.Results.{isRefusal};
+ghost use Rattle.telling.specs.Tallies.{tallyIn};
 ghost use Rattle.layout.specs.Places.{layoutLength};
-ghost use Rattle.console.specs.Packed.{packed, packedTwo};
+ghost use Rattle.console.specs.Packed.{packed, packedTwo, packedTally};
 ghost use Rattle.console.specs.Showing.{outOfRange};
 ghost use Rattle.console.specs.Contracts.{Finished};
 use layout::memory::load;
 use layout::memory::write;
 use network::range::in_range;
 use steps::Done;
+use telling::tally::Tally;
 
 pub mod calls;
 pub mod drain;
 pub mod labels;
 pub mod previewing;
+pub mod running;
 pub mod scripts;
 pub mod searching;
 pub mod showing;
@@ -35,6 +38,16 @@ fn packed_two(answer: u32, first: u32, second: u32) -> u64
     ensures { λ r. ⌜ r ≡ packedTwo answer first second ⌝ }
 {
     answer as u64 + 65536 * (first as u64) + 1099511627776 * (second as u64)
+}
+
+// An answer, the length of a text and a tally in one number.
+fn packed_tally(answer: u32, length: u32, tally: Tally) -> u64
+    requires { ⌜ (answer < 65_536) × (length < 16_777_216) × (tally .calls < 65_536) ⌝ }
+    ensures { λ r. ⌜ r ≡ packedTally answer length (tallyIn tally) ⌝ }
+{
+    let calls = tally.calls;
+    let highest = tally.highest as u32;
+    packed_two(answer, length, calls + 65536 * highest)
 }
 
 // Whether the memory that stands in the bytes is out of range.

@@ -8,11 +8,11 @@ ghost use Rattle.console.specs.Previewing.{previewBytes, previewWide, Pr
 use crate::packed;
 use crate::refused;
 use codec::put_number;
+use formats::LABEL_BYTES;
+use formats::ROW_BYTES;
+use formats::entries::put_label;
+use formats::entries::put_row;
 use label::Label;
-use layout::entries::put_label;
-use layout::entries::put_row;
-use layout::formats::LABEL_BYTES;
-use layout::formats::ROW_BYTES;
 use layout::memory::load;
 use rows::Row;
 use sandbox::calls;

@@ -3,8 +3,8 @@ ghost use mathlib.Core.Path.{_≡_};
 ghost use Rattle.console.specs.Packed.{telling};
 ghost use Rattle.console.specs.Searching.{searching};
 use crate::packed;
-use layout::entries::read_row;
-use layout::formats::ROW_BYTES;
+use formats::ROW_BYTES;
+use formats::entries::read_row;
 use rows::ROW_LIMIT;
 use rows::find;
 

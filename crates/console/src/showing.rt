@@ -9,29 +9,30 @@ ghost use Rattle.codec.specs.Bytes.{byteAt, Puts};
 ghost use Rattle.model.specs.Memory.{airLimit};
 ghost use Rattle.layout.specs.Places.{layoutLength, sizeAt, airAt};
 ghost use Rattle.console.specs.Packed.{telling};
-ghost use Rattle.console.specs.Showing.{showing, shownIn, showSize, showAir, showLink, showLabel, showRow, showRecord, showStation, showPacket, showPart};
+ghost use Rattle.console.specs.Showing.{showing, shownIn, showSize, showAir, showLimit, showLink, showLabel, showRow, showRecord, showStation, showPacket, showPart};
 ghost use Rattle.console.specs.Parts.{partRefusal, partWide, partIn};
 use crate::out_of_range;
 use crate::packed;
-use layout::entries::put_label;
-use layout::entries::put_record;
-use layout::entries::put_row;
-use layout::entries::put_station;
-use layout::entries::read_label;
-use layout::entries::read_link;
-use layout::entries::read_record;
-use layout::entries::read_row;
-use layout::entries::read_station;
-use layout::formats::LABEL_BYTES;
-use layout::formats::LINK_BYTES;
-use layout::formats::PACKET_BYTES;
-use layout::formats::RECORD_BYTES;
-use layout::formats::ROW_BYTES;
-use layout::formats::STATION_BYTES;
-use layout::packets::put_packet;
-use layout::packets::read_packet;
+use formats::LABEL_BYTES;
+use formats::LINK_BYTES;
+use formats::PACKET_BYTES;
+use formats::RECORD_BYTES;
+use formats::ROW_BYTES;
+use formats::STATION_BYTES;
+use formats::entries::put_label;
+use formats::entries::put_record;
+use formats::entries::put_row;
+use formats::entries::put_station;
+use formats::entries::read_label;
+use formats::entries::read_link;
+use formats::entries::read_record;
+use formats::entries::read_row;
+use formats::entries::read_station;
+use formats::packets::put_packet;
+use formats::packets::read_packet;
 use layout::places::AIR_AT;
 use layout::places::LABELS_AT;
+use layout::places::LIMIT_AT;
 use layout::places::LINKS_AT;
 use layout::places::PACKETS_AT;
 use layout::places::RECORDS_AT;
@@ -62,6 +63,17 @@ pub extern "C" fn srp_air(memory: &[u8]) -> u64
         return 1;
     }
     packed(0, memory[AIR_AT] as u32)
+}
+
+// The air limit.
+#[no_mangle]
+pub extern "C" fn srp_limit(memory: &[u8]) -> u64
+    ensures { λ r. ⌜ r ≡ telling (showing (now (memory .entry)) showLimit) ⌝ }
+{
+    if out_of_range(memory) {
+        return 1;
+    }
+    packed(0, memory[LIMIT_AT] as u32)
 }
 
 // Whether the link of a and b is up: 1, or 0.

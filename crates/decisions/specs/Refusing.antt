@@ -32,7 +32,7 @@ sendingRefusal limit air first sent second more =
 
 -- No test of a call but those for 13 and 7 turns it down.
 unfoldable pub Passes : Call → Network → Type 0
-Passes (Open n start) net = ⊥
+Passes (Open n start limit) net = ⊥
 Passes (Up a b) net = (notPair net a b ≡ false) × (linkUp net a b ≡ false)
 Passes (Down a b) net = (notPair net a b ≡ false) × (linkUp net a b ≡ true)
 Passes (Solicit a t) net = (notPair net a t ≡ false) × (isActive net a ≡ false) × (leb maxU32 (requestNumberAt net a) ≡ false)

@@ -90,9 +90,12 @@ module _ (net : Network) (kept : Invariant ⊥ net) (h : 0 < length (net .air)) 
   -- Deliver is accepted, or turned down with a number for which the packet is lost.
   pub delivers-or-loses : (number : ℕ) → step (Deliver 0) net ≡ refused number → losesPacket number ≡ true
   unfolding limited losesPacket
-  delivers-or-loses number e = go (usedUp net (deliver 0 net)) refl (ltb airLimit (length (deliver 0 net .net .air))) refl
+  delivers-or-loses number e = go (usedUp net after) refl (ltb (after .net .limit) (length (after .net .air))) refl
     where
-      go : (x : Bool) → usedUp net (deliver 0 net) ≡ x → (y : Bool) → ltb airLimit (length (deliver 0 net .net .air)) ≡ y → losesPacket number ≡ true
+      after : Effect
+      after = deliver 0 net
+
+      go : (x : Bool) → usedUp net after ≡ x → (y : Bool) → ltb (after .net .limit) (length (after .net .air)) ≡ y → losesPacket number ≡ true
       go true p y q = ap losesPacket (same-refused (sym e ∙ stepped ∙ refuse-holds 13 _ _ p))
       go false p true q = ap losesPacket (same-refused (sym e ∙ stepped ∙ refuse-passes 13 _ _ p ∙ refuse-holds 7 _ _ q))
       go false p false q = not-accepted (sym e ∙ stepped ∙ refuse-passes 13 _ _ p ∙ refuse-passes 7 _ _ q)
@@ -147,7 +150,7 @@ module _ (start : Network) (begins : Invariant ⊥ start) where
   draining-none = record { turned = refl; kept = begins; size = refl; air = air-of-ids (start .air); left = omega (arith, potential-start start begins) }
 
   pub most-turns : turnLimit (start .n) (length (start .air)) ≤ 69_136
-  most-turns = limit-most (start .n) (length (start .air)) (begins .formed .high) (begins .room)
+  most-turns = limit-most (start .n) (length (start .air)) (begins .formed .high) (omega (arith, begins .room, begins .formed .capped))
 
   module _ {turns : List Turn} {net : Network} (d : Draining start turns net) where
     -- With a packet in the air a turn is left to make.

@@ -69,13 +69,15 @@ pub record Drained (net : Network) (turns : List Turn) (left : Network) : Type 0
   pub calls : left ≡ run (callsOf turns) net
   pub reached : Reached net → Reached left
 
--- What lists of calls are made of (01, "The list in demand 3"): the calls of 01, and draining the air.
+-- What lists of calls are made of (01, "The list in demand 3"): the calls of 01, draining the air, and runs of events, which tell their lines in an
+-- array of this length.
 pub data Action : Type 0 where
   call : Call → Action
   drain : Action
+  events : (kinds operands : List ℕ) → (room : ℕ) → Action
 
-abbrev pub opens : (n start : ℕ) → Action
-opens n start = call (Open n start)
+abbrev pub opens : (n start limit : ℕ) → Action
+opens n start limit = call (Open n start limit)
 
 -- F-3: the repetition ends, from every memory in range, whatever made it.
 unfoldable pub AllDrain : Type 0

@@ -1,4 +1,3 @@
-pub mod EntryLaws
 pub mod MeaningLaws
 pub mod StoredLaws
 pub mod NetworkLaws

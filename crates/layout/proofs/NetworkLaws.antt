@@ -9,11 +9,12 @@ use Rattle.codec.specs.Fields.{total}
 use Rattle.codec.proofs.FieldLaws.{written-wide}
 use Rattle.codec.proofs.TableLaws.{table-wide, joined-wide, putParts, parts-put}
 use Rattle.model.specs.Memory.{Network}
-use Rattle.layout.specs.Formats.{labelFormat, recordFormat, stationFormat, stationOf, linkFormat}
+use Rattle.formats.specs.Formats.{labelFormat, recordFormat, stationFormat, stationOf, linkFormat}
+use Rattle.formats.specs.Written.{labelBytes, rowBytes, recordBytes, stationBytes, linkBytes}
+use Rattle.formats.proofs.EntryLaws.{row-wide, air-wide}
 use Rattle.layout.specs.Places.{partWidths, layoutLength}
-use Rattle.layout.specs.Written.{labelBytes, rowBytes, recordBytes, stationBytes, stationsOf, linkBytes, networkParts, networkBytes}
+use Rattle.layout.specs.Written.{stationsOf, networkParts, networkBytes}
 use Rattle.layout.specs.Fits.{NetworkFits}
-use Rattle.layout.proofs.EntryLaws.{row-wide, air-wide}
 
 module _ (net : Network) (fits : NetworkFits net) where
   pub parts-wide : map length (networkParts net) ≡ partWidths
@@ -24,7 +25,7 @@ module _ (net : Network) (fits : NetworkFits net) where
       let rows = table-wide rowBytes _ row-wide 256 (net .rows) (fits .rows .long) in
       let records = table-wide recordBytes _ (written-wide recordFormat) 256 (net .records) (fits .records .long) in
       let air = air-wide (net .air) in
-      λ i. 1 ∷ 1 ∷ stations i ∷ links i ∷ labels i ∷ rows i ∷ records i ∷ air i ∷ []
+      λ i. 1 ∷ 1 ∷ stations i ∷ links i ∷ labels i ∷ rows i ∷ records i ∷ air i ∷ 1 ∷ []
 
   pub network-wide : length (networkBytes net) ≡ layoutLength
   unfolding networkBytes

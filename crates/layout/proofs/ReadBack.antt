@@ -15,19 +15,23 @@ use Rattle.codec.specs.Tables.{joined}
 use Rattle.codec.proofs.FieldLaws.{written-wide, flags-back}
 use Rattle.codec.proofs.TableLaws.{Stands, stands-whole, stands-byte, stands-entry, stands-part, table-back, count-back, counted-stands, counted-back}
 use Rattle.model.specs.Memory.{Network, place, zeroLabel, zeroRecord, zeroPacket, airLimit}
-use Rattle.layout.specs.Formats.{labelFormat, labelWide, rowWide, recordFormat, recordWide, Station, stationFormat, stationWide, stationOf, zeroStation, linkFormat, linkWide, packetWide}
-use Rattle.layout.specs.Places.{layoutVersion, partWidths, layoutLength, sizeAt, stationsAt, linksAt, labelsAt, rowsAt, recordsAt, airAt, packetsAt}
-use Rattle.layout.specs.Stored.{storedLabel, storedRow, storedRecord, storedStation, storedLink, storedPacket, storedAir, storedStations, networkIn}
-use Rattle.layout.specs.Written.{labelBytes, rowBytes, recordBytes, stationBytes, stationsOf, linkBytes, packetBytes, networkParts, networkBytes}
-use Rattle.layout.specs.Fits.{RowFits, PacketFits, NetworkFits}
-use Rattle.layout.specs.Meaning.{pairHasMeaning, stationHasMeaning, packetHasMeaning, hasMeaning, storedNetwork}
-use Rattle.layout.proofs.EntryLaws.{row-wide, packet-wide, label-back, row-back, record-back, station-back, link-back, packet-back, packet-meant}
+use Rattle.formats.specs.Formats.{labelFormat, labelWide, rowWide, recordFormat, recordWide, Station, stationFormat, stationWide, stationOf, zeroStation, linkFormat, linkWide, packetWide}
+use Rattle.formats.specs.Stored.{storedLabel, storedRow, storedRecord, storedStation, storedLink, storedPacket, storedAir}
+use Rattle.formats.specs.Written.{labelBytes, rowBytes, recordBytes, stationBytes, linkBytes, packetBytes}
+use Rattle.formats.specs.Fits.{RowFits, PacketFits}
+use Rattle.formats.specs.Meaning.{packetHasMeaning}
+use Rattle.formats.proofs.EntryLaws.{row-wide, packet-wide, label-back, row-back, record-back, station-back, link-back, packet-back, packet-meant}
+use Rattle.layout.specs.Places.{layoutVersion, partWidths, layoutLength, sizeAt, stationsAt, linksAt, labelsAt, rowsAt, recordsAt, airAt, packetsAt, limitAt}
+use Rattle.layout.specs.Stored.{storedStations, networkIn}
+use Rattle.layout.specs.Written.{stationsOf, networkParts, networkBytes}
+use Rattle.layout.specs.Fits.{NetworkFits}
+use Rattle.layout.specs.Meaning.{pairHasMeaning, stationHasMeaning, hasMeaning, storedNetwork}
 use Rattle.layout.proofs.NetworkLaws.{parts-wide, network-wide}
 use Rattle.layout.proofs.MeaningLaws.{not-memory-long}
 
 module _ (net : Network) (fits : NetworkFits net) (bytes rest : List ℕ) (e : bytes ≡ networkBytes net ++ rest) where
   -- Each part stands at its place.
-  part : (k : ℕ) → k < 8 → Stands (getD (networkParts net) k []) bytes (0 + placeOf partWidths k)
+  part : (k : ℕ) → k < 9 → Stands (getD (networkParts net) k []) bytes (0 + placeOf partWidths k)
   unfolding networkBytes
   part k m = stands-part bytes 0 (networkParts net) partWidths (parts-wide net fits) (stands-whole bytes 0 (joined (networkParts net)) rest e refl) k m
 
@@ -36,6 +40,9 @@ module _ (net : Network) (fits : NetworkFits net) (bytes rest : List ℕ) (e : b
 
   n-back : byteAt bytes sizeAt ≡ net .n
   n-back = stands-byte bytes sizeAt (net .n) [] (part 1 (omega arith))
+
+  limit-back : byteAt bytes limitAt ≡ net .limit
+  limit-back = stands-byte bytes limitAt (net .limit) [] (part 8 (omega arith))
 
   -- Each table reads back.
   stations-back : storedStations bytes ≡ stationsOf net
@@ -64,7 +71,19 @@ module _ (net : Network) (fits : NetworkFits net) (bytes rest : List ℕ) (e : b
       let sought = kept-back (λ (k : Station). k .sought) (net .sought) 0 (fits .stations .sought-long) (λ k. refl) in
       let active = kept-back (λ (k : Station). k .active) (net .active) false (fits .stations .active-long) (λ k. refl) in
       let serials = kept-back (λ (k : Station). k .serial) (net .serials) 0 (fits .stations .serials-long) (λ k. refl) in
-      λ i. record { n = n-back i; labels = labels i; rows = rows i; records = records i; links = links i; numbers = numbers i; sought = sought i; active = active i; air = air-back i; serials = serials i }
+      λ i. record {
+        n = n-back i;
+        labels = labels i;
+        rows = rows i;
+        records = records i;
+        links = links i;
+        numbers = numbers i;
+        sought = sought i;
+        active = active i;
+        air = air-back i;
+        serials = serials i;
+        limit = limit-back i;
+      }
 
   -- The bytes have a meaning where n and the count are within the layout's places.
   record-meant : (k : ℕ) → k < 256 → flagsAt recordFormat bytes (recordsAt + recordWide * k) ≡ true

@@ -12,9 +12,10 @@ use Rattle.codec.specs.Bytes.{byteAt}
 use Rattle.codec.specs.Tables.{tableAt, padded, countedAt}
 use Rattle.model.specs.Memory.{Packet, zeroLabel, zeroRecord, zeroPacket, airLimit}
 use Rattle.network.specs.View.{labelOf}
-use Rattle.layout.specs.Formats.{labelWide, rowWide, recordWide, Station, stationWide, stationOf, zeroStation, linkWide, packetWide}
+use Rattle.formats.specs.Formats.{labelWide, rowWide, recordWide, Station, stationWide, stationOf, zeroStation, linkWide, packetWide}
+use Rattle.formats.specs.Stored.{storedLabel, storedRow, storedRecord, storedStation, storedLink, storedPacket, storedAir}
 use Rattle.layout.specs.Places.{stationsAt, linksAt, labelsAt, rowsAt, recordsAt, airAt, packetsAt}
-use Rattle.layout.specs.Stored.{storedLabel, storedRow, storedRecord, storedStation, storedLink, storedPacket, storedAir, storedStations, networkIn}
+use Rattle.layout.specs.Stored.{storedStations, networkIn}
 
 -- Tables of s, m and d, and of what stations keep, that were read from the bytes.
 module _ (bytes : List ℕ) where

@@ -5,15 +5,10 @@ use mathlib.Core.List.{[]}
 use lib.ListN.{length}
 use Rattle.codec.specs.Fields.{Fits}
 use Rattle.codec.specs.Tables.{TableFits, CountedFits}
-use Rattle.model.specs.Memory.{Row, Packet, Network, zeroLabel, zeroRecord, zeroPacket, rowLimit, airLimit}
-use Rattle.layout.specs.Formats.{labelFormat, successorFormat, zeroSuccessor, recordFormat, stationFormat, zeroStation, linkFormat, packetFormat, plainOf, Known}
+use Rattle.model.specs.Memory.{Network, zeroLabel, zeroRecord, zeroPacket, airLimit}
+use Rattle.formats.specs.Formats.{labelFormat, recordFormat, stationFormat, zeroStation, linkFormat}
+use Rattle.formats.specs.Fits.{RowFits, PacketFits}
 use Rattle.layout.specs.Written.{stationsOf}
-
-abbrev pub RowFits : Row → Type 0
-RowFits r = CountedFits rowLimit zeroSuccessor (Fits successorFormat) r
-
-abbrev pub PacketFits : Packet → Type 0
-PacketFits p = Fits packetFormat (plainOf p) × Known (p .body)
 
 -- Each station has its numbers, destination and flag.
 pub record StationsFit (net : Network) : Type 0 where

@@ -1,18 +1,17 @@
 -- Which bytes have a meaning (01: "bytes that the layout gives no meaning"). Places past a count, of stations from n up, of a station's record
 -- for itself and of links with the higher station first are not asked for.
 use Prim.Native.Nat.{ℕ, _+_, _*_}
-use mathlib.Core.Bool.{Bool, true, not, _&&_, _||_}
+use mathlib.Core.Bool.{Bool, not, _&&_, _||_}
 use mathlib.Core.List.{List}
 use lib.ListN.{length}
 use lib.Dec.{ltb, leb, eqb}
 use Rattle.base.specs.Choice.{if_then_else_}
 use Rattle.base.specs.Lists.{allBelow}
-use Rattle.label.specs.declared.Label.{Label}
 use Rattle.codec.specs.Bytes.{byteAt}
-use Rattle.codec.specs.Fields.{widths, valuesAt, flagsAt}
+use Rattle.codec.specs.Fields.{flagsAt}
 use Rattle.model.specs.Memory.{Network, place, fresh, airLimit}
-use Rattle.network.specs.declared.Packet.{Packet}
-use Rattle.layout.specs.Formats.{recordFormat, recordWide, stationFormat, stationWide, linkFormat, linkWide, packetFormat, resetIn, packetFrom, packetWide}
+use Rattle.formats.specs.Formats.{recordFormat, recordWide, stationFormat, stationWide, linkFormat, linkWide, packetWide}
+use Rattle.formats.specs.Meaning.{packetHasMeaning}
 use Rattle.layout.specs.Places.{layoutVersion, layoutLength, sizeAt, stationsAt, linksAt, recordsAt, airAt, packetsAt}
 use Rattle.layout.specs.Stored.{networkIn}
 
@@ -23,21 +22,6 @@ pairHasMeaning bytes i t =
 
 unfoldable pub stationHasMeaning : List ℕ → (n i : ℕ) → Bool
 stationHasMeaning bytes n i = flagsAt stationFormat bytes (stationsAt + stationWide * i) && allBelow n (pairHasMeaning bytes i)
-
--- The fields that a packet's kind doesn't use are 0: a request has no mask, a reply no mask and no reset bit, an error nothing but its mask.
--- Other kinds are out of range. The reset bit's value is handed on beside the packet.
-unfoldable pub isZeroLabel : Label → Bool
-isZeroLabel l = eqb (l .s .0) 0 && eqb (l .m) 0 && eqb (l .d) 0
-
-unfoldable pub fieldsHaveMeaning : Packet → (reset : ℕ) → Bool
-fieldsHaveMeaning p reset =
-    if eqb (p .kind) 1 then eqb (p .mask) 0 && ltb reset 2
-    else if eqb (p .kind) 2 then eqb (p .mask) 0 && eqb reset 0
-    else if eqb (p .kind) 3 then eqb (p .source) 0 && eqb (p .number .0) 0 && eqb (p .destination) 0 && isZeroLabel (p .label) && eqb reset 0
-    else true
-
-unfoldable pub packetHasMeaning : List ℕ → ℕ → Bool
-packetHasMeaning bytes at = let v = valuesAt (widths packetFormat) bytes at in fieldsHaveMeaning (packetFrom v) (resetIn v)
 
 -- The version is this layout's, and it has places for n stations and so many packets.
 abbrev pub sizesHaveMeaning : (version n count : ℕ) → Bool
@@ -61,4 +45,4 @@ notMemory bytes = tooShort bytes || not (hasMeaning bytes)
 
 -- The network that stands in the bytes.
 unfoldable pub storedNetwork : List ℕ → Network
-storedNetwork bytes = if notMemory bytes then fresh 0 0 else networkIn bytes
+storedNetwork bytes = if notMemory bytes then fresh 0 0 0 else networkIn bytes

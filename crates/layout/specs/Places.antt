@@ -2,15 +2,15 @@
 use Prim.Native.Nat.{ℕ, _+_, _*_}
 use mathlib.Core.List.{List, [], _∷_}
 use Rattle.codec.specs.Fields.{total, placeOf}
-use Rattle.layout.specs.Formats.{labelWide, rowWide, recordWide, stationWide, linkWide, airWide}
+use Rattle.formats.specs.Formats.{labelWide, rowWide, recordWide, stationWide, linkWide, airWide}
 
 -- The layout's number, which its first byte holds. The first layout had none and n in its first byte, so no number up to 16 is taken.
 abbrev pub layoutVersion : ℕ
-layoutVersion = 18
+layoutVersion = 19
 
--- The version, n, the stations, the links, the labels, rows and records, and the air.
+-- The version, n, the stations, the links, the labels, rows and records, the air, and the air limit.
 abbrev pub partWidths : List ℕ
-partWidths = 1 ∷ 1 ∷ stationWide * 16 ∷ linkWide * 256 ∷ labelWide * 256 ∷ rowWide * 256 ∷ recordWide * 256 ∷ airWide ∷ []
+partWidths = 1 ∷ 1 ∷ stationWide * 16 ∷ linkWide * 256 ∷ labelWide * 256 ∷ rowWide * 256 ∷ recordWide * 256 ∷ airWide ∷ 1 ∷ []
 
 abbrev pub sizeAt : ℕ
 sizeAt = placeOf partWidths 1
@@ -36,6 +36,9 @@ airAt = placeOf partWidths 7
 -- The packets stand behind their number.
 abbrev pub packetsAt : ℕ
 packetsAt = airAt + 1
+
+abbrev pub limitAt : ℕ
+limitAt = placeOf partWidths 8
 
 -- The length of the whole.
 abbrev pub layoutLength : ℕ

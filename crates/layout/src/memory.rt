@@ -12,34 +12,20 @@ ghost use Rattle.codec.specs.Tables.{tableAt, TableFits};
 ghost use Rattle.model.specs.Memory.{zeroLabel, zeroRecord};
 ghost use Rattle.rows.specs.View.{rowOf};
 ghost use Rattle.network.specs.View.{recordOf, labelOf, view};
-ghost use Rattle.layout.specs.Formats.{labelFormat, labelWide, rowWide, recordFormat, recordWide, stationFormat, zeroStation, linkFormat, linkWide};
+ghost use Rattle.formats.specs.Formats.{labelFormat, labelWide, rowWide, recordFormat, recordWide, stationFormat, zeroStation, linkFormat, linkWide};
+ghost use Rattle.formats.specs.Stored.{storedLabel, storedRow, storedRecord, storedLink};
+ghost use Rattle.formats.specs.Written.{labelBytes, rowBytes, recordBytes, stationBytes, linkBytes};
+ghost use Rattle.formats.specs.Fits.{RowFits};
 ghost use Rattle.layout.specs.Places.{layoutLength, stationsAt, linksAt, labelsAt, rowsAt, recordsAt};
-ghost use Rattle.layout.specs.Entries.{stationsFrom};
-ghost use Rattle.layout.specs.Stored.{storedLabel, storedRow, storedRecord, storedLink, storedStations, networkIn};
-ghost use Rattle.layout.specs.Written.{labelBytes, rowBytes, recordBytes, stationBytes, linkBytes, networkBytes};
-ghost use Rattle.layout.specs.Fits.{RowFits, NetworkFits};
+ghost use Rattle.layout.specs.Stations.{stationsFrom};
+ghost use Rattle.layout.specs.Stored.{storedStations, networkIn};
+ghost use Rattle.layout.specs.Written.{networkBytes};
+ghost use Rattle.layout.specs.Fits.{NetworkFits};
 ghost use Rattle.layout.specs.Meaning.{storedNetwork};
-use crate::entries::Station;
-use crate::entries::put_label;
-use crate::entries::put_link;
-use crate::entries::put_record;
-use crate::entries::put_row;
-use crate::entries::put_station;
-use crate::entries::read_label;
-use crate::entries::read_link;
-use crate::entries::read_record;
-use crate::entries::read_row;
-use crate::entries::read_station;
-use crate::formats::LABEL_BYTES;
-use crate::formats::LINK_BYTES;
-use crate::formats::RECORD_BYTES;
-use crate::formats::ROW_BYTES;
-use crate::formats::STATION_BYTES;
 use crate::meaning::not_memory;
-use crate::packets::put_air;
-use crate::packets::read_air;
 use crate::places::AIR_AT;
 use crate::places::LABELS_AT;
+use crate::places::LIMIT_AT;
 use crate::places::LINKS_AT;
 use crate::places::RECORDS_AT;
 use crate::places::ROWS_AT;
@@ -47,6 +33,24 @@ use crate::places::SIZE_AT;
 use crate::places::STATIONS_AT;
 use crate::places::VERSION;
 use codec::put_byte;
+use formats::LABEL_BYTES;
+use formats::LINK_BYTES;
+use formats::RECORD_BYTES;
+use formats::ROW_BYTES;
+use formats::STATION_BYTES;
+use formats::entries::Station;
+use formats::entries::put_label;
+use formats::entries::put_link;
+use formats::entries::put_record;
+use formats::entries::put_row;
+use formats::entries::put_station;
+use formats::entries::read_label;
+use formats::entries::read_link;
+use formats::entries::read_record;
+use formats::entries::read_row;
+use formats::entries::read_station;
+use formats::packets::put_air;
+use formats::packets::read_air;
 use label::label_of;
 use network::Memory;
 use network::Record;
@@ -181,6 +185,7 @@ fn read(bytes: &[u8]) -> Memory
     let kept = read_stations(bytes);
     let links = read_links(bytes);
     let n = bytes[SIZE_AT];
+    let limit = bytes[LIMIT_AT];
     let s = labels.s;
     let m = labels.m;
     let d = labels.d;
@@ -201,6 +206,7 @@ fn read(bytes: &[u8]) -> Memory
         links: links,
         air: air,
         n: n,
+        limit: limit,
     }
 }
 
@@ -209,7 +215,7 @@ pub fn load(bytes: &[u8]) -> Memory
     ensures { λ r. ⌜ view r ≡ storedNetwork (now (bytes .entry)) ⌝ }
 {
     if not_memory(bytes) {
-        return fresh(0, 0);
+        return fresh(0, 0, 0);
     }
     read(bytes)
 }
@@ -290,6 +296,7 @@ pub fn write(out: &mut [u8], memory: Memory)
     ensures { λ _. ⌜ (now (out .exit) ≡ over (networkBytes (view memory)) (now (out .entry))) × NetworkFits (view memory) ⌝ }
 {
     let n = memory.n;
+    let limit = memory.limit;
     let numbers = memory.numbers;
     let sought = memory.sought;
     let active = memory.active;
@@ -315,4 +322,5 @@ pub fn write(out: &mut [u8], memory: Memory)
     write_rows(out, rows);
     write_records(out, records);
     put_air(out, AIR_AT, air);
+    put_byte(out, LIMIT_AT, limit);
 }

@@ -1,13 +1,13 @@
 // Where the parts of the memory begin, and its length (docs/LAYOUT.md, specs/Places.antt).
-use crate::formats::AIR_BYTES;
-use crate::formats::LABEL_BYTES;
-use crate::formats::LINK_BYTES;
-use crate::formats::RECORD_BYTES;
-use crate::formats::ROW_BYTES;
-use crate::formats::STATION_BYTES;
+use formats::AIR_BYTES;
+use formats::LABEL_BYTES;
+use formats::LINK_BYTES;
+use formats::RECORD_BYTES;
+use formats::ROW_BYTES;
+use formats::STATION_BYTES;
 
 // The layout's number.
-pub const VERSION: u8 = 18;
+pub const VERSION: u8 = 19;
 
 pub const SIZE_AT: usize = 1;
 
@@ -25,4 +25,6 @@ pub const AIR_AT: usize = RECORDS_AT + RECORD_BYTES * 256;
 
 pub const PACKETS_AT: usize = AIR_AT + 1;
 
-pub const LENGTH: usize = AIR_AT + AIR_BYTES;
+pub const LIMIT_AT: usize = AIR_AT + AIR_BYTES;
+
+pub const LENGTH: usize = LIMIT_AT + 1;

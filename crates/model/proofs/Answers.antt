@@ -102,7 +102,7 @@ none-answers e z = record { tells = rw z }
 
 step-tells : (c : Call) (net : Network) → Tells (step c net)
 unfolding step opening down solicit sending deliver isRefusal
-step-tells (Open n start) net = refuse-tells 1 _ _ refl (accepts (none-answers _ refl))
+step-tells (Open n start limit) net = refuse-tells 1 _ _ refl (refuse-tells 14 _ _ refl (accepts (none-answers _ refl)))
 step-tells (Up a b) net = refuse-tells 1 _ _ refl (refuse-tells 2 _ _ refl (refuse-tells 3 _ _ refl (accepts (none-answers _ refl))))
 step-tells (Down a b) net = refuse-tells 1 _ _ refl (refuse-tells 2 _ _ refl (refuse-tells 3 _ _ refl (limited-tells net _ (none-answers _ refl))))
 step-tells (Solicit a t) net =

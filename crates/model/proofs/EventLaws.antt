@@ -11,11 +11,13 @@ use borrow.Author.Tests.{eq-eqb, ne-eqb, eqb-true, eqb-false, ltb-false, not-fal
 use Rattle.base.proofs.Booleans.{neither, choose, clash}
 use Rattle.base.specs.Lists.{tabulate}
 use Rattle.base.proofs.Loops.{tabulate-more}
+use Rattle.base.specs.Results.{accepted}
+use Rattle.base.proofs.Results.{not-turned-down, same-accepted}
 use Rattle.model.specs.Memory.{Network}
-use Rattle.model.specs.Calls.{Call, after, step, run}
+use Rattle.model.specs.Calls.{Call, Effect, after, step, run}
 use Rattle.model.specs.Calls.{Open, Up, Down, Solicit, GiveUp, Expire, Deliver, Lose, Duplicate}
 use Rattle.model.specs.Walks.{Reached}
-use Rattle.model.specs.Events.{usesOne, notEvent, callOf, Event, calls, traces, noEvent, eventOf, eventAt, callsIn, eventLimit, notEvents, afterEvents}
+use Rattle.model.specs.Events.{usesOne, notEvent, callOf, Event, calls, traces, noEvent, eventOf, eventAt, callsIn, eventLimit, notEvents, eventsOf, afterEvents, running}
 use Rattle.model.proofs.Refusals.{OnMemory}
 
 -- A list of calls and then another.
@@ -29,6 +31,7 @@ pub reached-more : (net : Network) (more : List Call) → Reached net → Reache
 reached-more net more r = record {
   n = r .n;
   start = r .start;
+  limit = r .limit;
   opened = r .opened;
   opens = r .opens;
   calls = r .calls ++ more;
@@ -131,7 +134,7 @@ module _ (kind a b : ℕ) where
 
 -- The kind and the operands of a call and of an event.
 abbrev callParts : Call → List ℕ
-callParts (Open n start) = []
+callParts (Open n start limit) = []
 callParts (Up a b) = 1 ∷ a ∷ b ∷ []
 callParts (Down a b) = 2 ∷ a ∷ b ∷ []
 callParts (Solicit a t) = 3 ∷ a ∷ t ∷ []
@@ -199,3 +202,14 @@ unfolding notEvents
 events-tell kinds operands h =
     let w = neither (ltb eventLimit kinds) (not (eqb operands (2 * kinds))) h in
     (omega (arith, ltb-false eventLimit kinds (w .0)), eqb-true operands (2 * kinds) (not-false (eqb operands (2 * kinds)) (w .1)))
+
+-- A run that is accepted leaves what the calls among its events leave.
+pub running-after : (net : Network) (kinds operands : List ℕ) (room : ℕ) (e : Effect) → running net kinds operands room ≡ accepted e
+    → e .net ≡ run (callsIn (eventsOf kinds operands)) net
+unfolding running afterEvents eventsOf
+running-after net kinds operands room e h =
+    let (listed, a) = not-turned-down 10 _ _ e h in
+    let (ranged, b) = not-turned-down 1 _ _ e a in
+    let (right, c) = not-turned-down 11 _ _ e b in
+    let (fits, d) = not-turned-down 12 _ _ e c in
+    sym (ap (λ (x : Effect). x .net) (same-accepted d))

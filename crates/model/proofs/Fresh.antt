@@ -9,7 +9,7 @@ use Rattle.base.specs.Lists.{distinct}
 use Rattle.label.specs.declared.Label.{Label}
 use Rattle.label.specs.Label.{label, unassigned, inRange}
 use Rattle.label.proofs.Range.{assigned-in-range, unassigned-in-range}
-use Rattle.model.specs.Memory.{Row, place, zeroLabel, zeroRecord, labelIn, freshLabels, freshRecord, fresh}
+use Rattle.model.specs.Memory.{Row, place, zeroLabel, zeroRecord, labelIn, freshLabels, freshRecord, fresh, airLimit}
 use Rattle.model.proofs.Invariant.{CellOk, RecordOk, set-one, place-below}
 use Rattle.model.proofs.Range.{Invariant}
 
@@ -38,15 +38,16 @@ fresh-labelled n start high hs (suc c) hc =
           (λ i t hi ht q. (o .each i t hi ht .0, λ e h. o .each i t hi ht .1 e (omega arith)));
     }
 
-pub fresh-invariant : {Reachable : Type 0} (n start : ℕ) → 2 ≤ n → n ≤ 16 → 0 < start → Invariant Reachable (fresh n start)
+pub fresh-invariant : {Reachable : Type 0} (n start limit : ℕ) → 2 ≤ n → n ≤ 16 → 0 < start → limit ≤ airLimit → Invariant Reachable (fresh n start limit)
 unfolding fresh distinct freshRecord
-fresh-invariant {Reachable} n start low high hs =
+fresh-invariant {Reachable} n start limit low high hs hl =
     let o = fresh-labelled n start high hs n (omega arith) in
     let L = freshLabels start n in
     record {
       formed = record {
         low = low;
         high = high;
+        capped = hl;
         tables = record {
           labels-length = o .labels-length;
           rows-length = length-replicate {A = Row} 256 [];

@@ -18,8 +18,8 @@ use Rattle.label.specs.declared.Label.{Label}
 use Rattle.label.specs.Label.{inRange, _≻_, _⪰_}
 use Rattle.label.proofs.Order.{≻-irreflexive, ⪰-transitive}
 use Rattle.model.specs.Memory.{Successor, Row, Record, Body, request, reply, error, other, Packet, Network}
-use Rattle.model.specs.Memory.{place, zeroLabel, zeroRecord, labelIn, rowIn, recordIn, linkIn, stations, rowLimit}
-use Rattle.model.specs.Memory.{setLabels, setRows, setRecords, setLinks, setNumbers, setSoughts, setActives, setAir, setSerials}
+use Rattle.model.specs.Memory.{place, zeroLabel, zeroRecord, labelIn, rowIn, recordIn, linkIn, stations, rowLimit, airLimit}
+use Rattle.model.specs.Memory.{setLabels, setRows, setRecords, setLinks, setNumbers, setSoughts, setActives, setAir, setSerials, setLimit}
 use Rattle.model.proofs.Rows.{keep-distinct}
 
 -- In what follows L is the table of labels, R of rows, K of links and C of records.
@@ -101,6 +101,7 @@ pub record SoughtOk (n : ℕ) (l : List ℕ) : Type 0 where
 pub record WellFormed (Reachable : Type 0) (net : Network) : Type 0 where
   pub low : 2 ≤ net .n
   pub high : net .n ≤ 16
+  pub capped : net .limit ≤ airLimit
   pub tables : TablesOk Reachable (net .n) (net .labels) (net .links) (net .rows)
   pub records : RecordsOk (net .n) (net .records)
   pub sought : SoughtOk (net .n) (net .sought)
@@ -111,40 +112,44 @@ module _ {Reachable : Type 0} (net : Network) (ok : WellFormed Reachable net) wh
   pub well-formed-tables : (L : List Label) (R : List Row) → TablesOk Reachable (net .n) L (net .links) R → AirOk Reachable (net .n) L (net .links) (net .air)
       → WellFormed Reachable (setRows R (setLabels L net))
   unfolding setRows setLabels
-  well-formed-tables L R tables air = record { low = ok .low; high = ok .high; tables = tables; records = ok .records; sought = ok .sought; air = air }
+  well-formed-tables L R tables air = record { low = ok .low; high = ok .high; capped = ok .capped; tables = tables; records = ok .records; sought = ok .sought; air = air }
 
   pub well-formed-rows : (R : List Row) → TablesOk Reachable (net .n) (net .labels) (net .links) R → WellFormed Reachable (setRows R net)
   unfolding setRows
-  well-formed-rows R tables = record { low = ok .low; high = ok .high; tables = tables; records = ok .records; sought = ok .sought; air = ok .air }
+  well-formed-rows R tables = record { low = ok .low; high = ok .high; capped = ok .capped; tables = tables; records = ok .records; sought = ok .sought; air = ok .air }
 
   pub well-formed-records : (C : List Record) → RecordsOk (net .n) C → WellFormed Reachable (setRecords C net)
   unfolding setRecords
-  well-formed-records C records = record { low = ok .low; high = ok .high; tables = ok .tables; records = records; sought = ok .sought; air = ok .air }
+  well-formed-records C records = record { low = ok .low; high = ok .high; capped = ok .capped; tables = ok .tables; records = records; sought = ok .sought; air = ok .air }
 
   pub well-formed-links : (K : List Bool) → TablesOk Reachable (net .n) (net .labels) K (net .rows) → AirOk Reachable (net .n) (net .labels) K (net .air)
       → WellFormed Reachable (setLinks K net)
   unfolding setLinks
-  well-formed-links K tables air = record { low = ok .low; high = ok .high; tables = tables; records = ok .records; sought = ok .sought; air = air }
+  well-formed-links K tables air = record { low = ok .low; high = ok .high; capped = ok .capped; tables = tables; records = ok .records; sought = ok .sought; air = air }
 
   pub well-formed-numbers : (l : List ℕ) → WellFormed Reachable (setNumbers l net)
   unfolding setNumbers
-  well-formed-numbers l = record { low = ok .low; high = ok .high; tables = ok .tables; records = ok .records; sought = ok .sought; air = ok .air }
+  well-formed-numbers l = record { low = ok .low; high = ok .high; capped = ok .capped; tables = ok .tables; records = ok .records; sought = ok .sought; air = ok .air }
 
   pub well-formed-soughts : (l : List ℕ) → SoughtOk (net .n) l → WellFormed Reachable (setSoughts l net)
   unfolding setSoughts
-  well-formed-soughts l sought = record { low = ok .low; high = ok .high; tables = ok .tables; records = ok .records; sought = sought; air = ok .air }
+  well-formed-soughts l sought = record { low = ok .low; high = ok .high; capped = ok .capped; tables = ok .tables; records = ok .records; sought = sought; air = ok .air }
 
   pub well-formed-actives : (l : List Bool) → WellFormed Reachable (setActives l net)
   unfolding setActives
-  well-formed-actives l = record { low = ok .low; high = ok .high; tables = ok .tables; records = ok .records; sought = ok .sought; air = ok .air }
+  well-formed-actives l = record { low = ok .low; high = ok .high; capped = ok .capped; tables = ok .tables; records = ok .records; sought = ok .sought; air = ok .air }
 
   pub well-formed-air : (air : List Packet) → AirOk Reachable (net .n) (net .labels) (net .links) air → WellFormed Reachable (setAir air net)
   unfolding setAir
-  well-formed-air air air-ok = record { low = ok .low; high = ok .high; tables = ok .tables; records = ok .records; sought = ok .sought; air = air-ok }
+  well-formed-air air air-ok = record { low = ok .low; high = ok .high; capped = ok .capped; tables = ok .tables; records = ok .records; sought = ok .sought; air = air-ok }
 
   pub well-formed-serials : (l : List ℕ) → WellFormed Reachable (setSerials l net)
   unfolding setSerials
-  well-formed-serials l = record { low = ok .low; high = ok .high; tables = ok .tables; records = ok .records; sought = ok .sought; air = ok .air }
+  well-formed-serials l = record { low = ok .low; high = ok .high; capped = ok .capped; tables = ok .tables; records = ok .records; sought = ok .sought; air = ok .air }
+
+  pub well-formed-limit : (limit : ℕ) → limit ≤ airLimit → WellFormed Reachable (setLimit limit net)
+  unfolding setLimit
+  well-formed-limit limit h = record { low = ok .low; high = ok .high; capped = h; tables = ok .tables; records = ok .records; sought = ok .sought; air = ok .air }
 
 -- Places of a table.
 

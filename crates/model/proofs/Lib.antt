@@ -12,6 +12,8 @@ pub mod Steps
 pub mod Tracing
 pub mod Walking
 pub mod EventLaws
+pub mod Limits
+pub mod Tallies
 pub mod HistoryLaws
 pub mod PreviewLaws
 pub mod Narrowing

@@ -49,7 +49,7 @@ module _ (net : Network) (sized : Sized net) (a b : ℕ) where
 
     no-packet : (x : ℕ) → 255 ≤ x → notPacket net x ≡ true
     unfolding notPacket
-    no-packet x h = le-leb _ x (omega (arith, inv .room))
+    no-packet x h = le-leb _ x (omega (arith, inv .room, inv .formed .capped))
 
     of-pair : {X : Type 0} (z : ℕ → ℕ → X) (v : X) → ((x y : ℕ) → notPair net x y ≡ true → z x y ≡ v) → z (min a 255) (min b 255) ≡ z a b
     of-pair z v f =

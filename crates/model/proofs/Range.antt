@@ -6,6 +6,7 @@ use mathlib.Core.Bool.{Bool, true, not, _&&_}
 use mathlib.Core.List.{List, []}
 use lib.ListN.{length}
 use lib.Dec.{ltb, leb, eqb}
+use native.Mathlib.Omega.{arith}
 use borrow.Author.Tests.{ltb-true, leb-true, eqb-true, eqb-false, not-true, lt-ltb, le-leb, eq-eqb, ne-eqb}
 use Rattle.base.specs.Choice.{if_then_else_}
 use Rattle.base.specs.Lists.{allBelow, allIn, isEmpty, distinct}
@@ -16,13 +17,13 @@ use Rattle.label.specs.Label.{inRange}
 use Rattle.model.specs.Memory.{Successor, Row, Record, Body, request, reply, error, other, Packet, Network}
 use Rattle.model.specs.Memory.{labelAt, rowAt, recordAt, soughtAt, Sized, names, stations, airLimit, rowLimit}
 use Rattle.model.specs.Memory.{successorInRange, rowInRange, recordInRange, ownInRange, cellInRange, placeInRange, stationInRange}
-use Rattle.model.specs.Memory.{headInRange, bodyInRange, packetInRange, airInRange, sizeInRange, memoryInRange}
+use Rattle.model.specs.Memory.{headInRange, bodyInRange, packetInRange, airInRange, limitInRange, sizeInRange, memoryInRange}
 use Rattle.model.proofs.Invariant.{SuccessorOk, CellOk, HeadOk, BodyOk, PacketOk, RecordOk, WellFormed}
 
--- The invariant between calls: the air is within its limit too.
+-- The invariant between calls: the air is within the network's limit too.
 pub record Invariant (Reachable : Type 0) (net : Network) : Type 0 where
   pub formed : WellFormed Reachable net
-  pub room : length (net .air) ≤ airLimit
+  pub room : length (net .air) ≤ net .limit
 
 -- Each part passes its test.
 
@@ -72,16 +73,17 @@ packet-passes {n = n} p o =
     (negates (ne-eqb (p .sender) (p .receiver) (o .apart)))) (body-passes n (p .body) (o .body))
 
 pub invariant-in-range : {Reachable : Type 0} (net : Network) → Invariant Reachable net → memoryInRange net ≡ true
-unfolding memoryInRange sizeInRange stationInRange airInRange
+unfolding memoryInRange sizeInRange stationInRange airInRange limitInRange
 invariant-in-range net k =
     let n = net .n in
     let ok = k .formed in
     passes
-    (passes (passes (le-leb 2 n (ok .low)) (le-leb n 16 (ok .high)))
+    (passes (passes (passes (le-leb 2 n (ok .low)) (le-leb n 16 (ok .high)))
     (all-below n (stationInRange net) (λ i hi. passes (lt-ltb (soughtAt net i) n (ok .sought .each i hi))
     (all-below n (placeInRange net i) (λ t ht. cell-passes i t (labelAt net i t) (rowAt net i t) (recordAt net i t)
     (ok .tables .cell i t hi ht) (ok .records .each i t hi ht))))))
-    (passes (le-leb (length (net .air)) airLimit (k .room)) (all-in (packetInRange n) (net .air) (λ p m. packet-passes p (ok .air p m))))
+    (passes (le-leb (length (net .air)) airLimit (omega (arith, k .room, ok .capped))) (all-in (packetInRange n) (net .air) (λ p m. packet-passes p (ok .air p m)))))
+    (passes (le-leb (net .limit) airLimit (ok .capped)) (le-leb (length (net .air)) (net .limit) (k .room)))
 
 -- What each test tells.
 
@@ -166,16 +168,19 @@ packet-tells {n} p h =
 
 module _ (net : Network) (h : memoryInRange net ≡ true) where
   memory-parts : (leb 2 (net .n) ≡ true) × (leb (net .n) 16 ≡ true) × (allBelow (net .n) (stationInRange net) ≡ true)
-      × (leb (length (net .air)) airLimit ≡ true) × (allIn (packetInRange (net .n)) (net .air) ≡ true)
-  unfolding memoryInRange sizeInRange airInRange
+      × (allIn (packetInRange (net .n)) (net .air) ≡ true) × (leb (net .limit) airLimit ≡ true) × (leb (length (net .air)) (net .limit) ≡ true)
+  unfolding memoryInRange sizeInRange airInRange limitInRange
   memory-parts =
       let n = net .n in
       let air = allIn (packetInRange n) (net .air) in
-      let w = both (leb 2 n && leb n 16 && allBelow n (stationInRange net)) (leb (length (net .air)) airLimit && air) h in
+      let v = both (leb 2 n && leb n 16 && allBelow n (stationInRange net) && (leb (length (net .air)) airLimit && air))
+      (leb (net .limit) airLimit && leb (length (net .air)) (net .limit)) h in
+      let u = both (leb (net .limit) airLimit) (leb (length (net .air)) (net .limit)) (v .1) in
+      let w = both (leb 2 n && leb n 16 && allBelow n (stationInRange net)) (leb (length (net .air)) airLimit && air) (v .0) in
       let x = both (leb 2 n && leb n 16) (allBelow n (stationInRange net)) (w .0) in
       let y = both (leb 2 n) (leb n 16) (x .0) in
       let z = both (leb (length (net .air)) airLimit) air (w .1) in
-      (y .0, y .1, x .1, z .0, z .1)
+      (y .0, y .1, x .1, z .1, u .0, u .1)
 
   station-parts : (i : ℕ) → i < net .n → (ltb (soughtAt net i) (net .n) ≡ true) × (allBelow (net .n) (placeInRange net i) ≡ true)
   unfolding stationInRange
@@ -191,6 +196,7 @@ module _ (net : Network) (h : memoryInRange net ≡ true) where
     formed = record {
       low = leb-true 2 (net .n) (memory-parts .0);
       high = leb-true (net .n) 16 (memory-parts .1);
+      capped = leb-true (net .limit) airLimit (memory-parts .4);
       tables = record {
         labels-length = s .labels-length;
         rows-length = s .rows-length;
@@ -204,7 +210,7 @@ module _ (net : Network) (h : memoryInRange net ≡ true) where
         sought-length = s .sought-length;
         each = λ i hi. ltb-true (soughtAt net i) (net .n) (station-parts i hi .0);
       };
-      air = λ p m. packet-tells p (all-in-at (packetInRange (net .n)) (net .air) (memory-parts .4) p m);
+      air = λ p m. packet-tells p (all-in-at (packetInRange (net .n)) (net .air) (memory-parts .3) p m);
     };
-    room = leb-true (length (net .air)) airLimit (memory-parts .3);
+    room = leb-true (length (net .air)) (net .limit) (memory-parts .5);
   }

@@ -1,13 +1,13 @@
 -- A call by the tests for its refusals, one after the other.
 use Prim.Native.Nat.{ℕ, _≤_, _<_}
-use mathlib.Core.Path.{_≡_, refl, sym, ap, _∙_}
-use mathlib.Core.Logic.{_≢_}
+use mathlib.Core.Path.{_≡_, refl, sym, ap, ap₂, _∙_}
+use mathlib.Core.Logic.{_≢_, _⊎_, inl, inr}
 use mathlib.Core.Bool.{Bool, true, false, not, _||_}
 use mathlib.Core.List.{List, [], _∷_}
 use lib.ListN.{length, length-map}
 use lib.Dec.{ltb, leb, eqb}
 use native.Mathlib.Omega.{arith}
-use borrow.Author.Tests.{leb-true, leb-false, eqb-false, not-false}
+use borrow.Author.Tests.{ltb-false, leb-true, leb-false, eqb-false, not-false}
 use Rattle.base.specs.Choice.{if_then_else_}
 use Rattle.base.proofs.Booleans.{both, neither, choose}
 use Rattle.base.proofs.Loops.{below-length}
@@ -18,35 +18,63 @@ use Rattle.model.specs.Memory.{Packet, Network, linkUp, requestNumberAt,
 use Rattle.model.specs.Memory.{fresh, airLimit, sizeInRange, memoryInRange}
 use Rattle.model.specs.Calls.{Call, Open, Up, Down, Solicit, GiveUp, Expire, Deliver, Lose, Duplicate}
 use Rattle.model.specs.Calls.{Effect, effect, usedUp, limited, notStation, notPair, notPacket}
-use Rattle.model.specs.Calls.{append, neighbours, copies, errors, down, solicit, removePacket, deliver, notOpening, opening, step, run}
+use Rattle.model.specs.Calls.{append, neighbours, copies, errors, down, solicit, removePacket, deliver, notOpening, notLimit, opening, step, run}
 use Rattle.model.specs.Walks.{Reached}
 
 -- Open.
-module _ (n start : ℕ) where
-  pub open-1 : (net : Network) → notOpening n start ≡ true → step (Open n start) net ≡ refused 1
+module _ (n start limit : ℕ) where
+  pub open-1 : (net : Network) → notOpening n start ≡ true → step (Open n start limit) net ≡ refused 1
   unfolding step opening
   open-1 net e = refuse-holds 1 _ _ e
 
-  pub opening-accepted : notOpening n start ≡ false → opening n start ≡ accepted (effect 0 0 (fresh n start))
-  unfolding opening
-  opening-accepted e = refuse-passes 1 _ _ e
+  pub open-14 : (net : Network) → notOpening n start ≡ false → notLimit limit ≡ true → step (Open n start limit) net ≡ refused 14
+  unfolding step opening refuse_when_otherwise_
+  open-14 net e k = rw (e, k)
 
-  pub open-accepted : (net : Network) → notOpening n start ≡ false → step (Open n start) net ≡ accepted (effect 0 0 (fresh n start))
+  pub opening-accepted : notOpening n start ≡ false → notLimit limit ≡ false → opening n start limit ≡ accepted (effect 0 0 (fresh n start limit))
+  unfolding opening refuse_when_otherwise_
+  opening-accepted e k = rw (e, k)
+
+  pub open-accepted : (net : Network) → notOpening n start ≡ false → notLimit limit ≡ false → step (Open n start limit) net ≡ accepted (effect 0 0 (fresh n start limit))
   unfolding step
-  open-accepted net e = opening-accepted e
+  open-accepted net e k = opening-accepted e k
+
+  -- It is turned down with the number that its tests give, or they give none.
+  abbrev pub openNumber : ℕ
+  openNumber = if notOpening n start then 1 else if notLimit limit then 14 else 0
+
+  pub record Opens (net : Network) : Type 0 where
+    pub none : openNumber ≡ 0
+    pub right : notOpening n start ≡ false
+    pub within : notLimit limit ≡ false
+    pub accepts : step (Open n start limit) net ≡ accepted (effect 0 0 (fresh n start limit))
+
+  pub open-either : (net : Network) → ((openNumber ≢ 0) × (step (Open n start limit) net ≡ refused openNumber)) ⊎ Opens net
+  open-either net = go (notOpening n start) refl (notLimit limit) refl
+    where
+      go : (x : Bool) → notOpening n start ≡ x → (y : Bool) → notLimit limit ≡ y → ((openNumber ≢ 0) × (step (Open n start limit) net ≡ refused openNumber)) ⊎ Opens net
+      go true p y q = let one : openNumber ≡ 1 = rw p in inl ((λ z. omega arith), open-1 net p ∙ ap refused (sym one))
+      go false p true q = let one : openNumber ≡ 14 = rw (p, q) in inl ((λ z. omega arith), open-14 net p q ∙ ap refused (sym one))
+      go false p false q = inr (record { none = rw (p, q); right = p; within = q; accepts = open-accepted net p q })
 
   -- What calls make of it is a network that a list of calls reaches.
-  pub fresh-reached : notOpening n start ≡ false → (calls : List Call) (net : Network) → net ≡ run calls (fresh n start) → Reached net
-  fresh-reached e calls net h = record {
+  pub fresh-reached : notOpening n start ≡ false → notLimit limit ≡ false → (calls : List Call) (net : Network) → net ≡ run calls (fresh n start limit) → Reached net
+  fresh-reached e k calls net h = record {
     n = n;
     start = start;
-    opened = effect 0 0 (fresh n start);
-    opens = opening-accepted e;
+    limit = limit;
+    opened = effect 0 0 (fresh n start limit);
+    opens = opening-accepted e k;
     calls = calls;
     left = h;
   }
 
-  -- What its test tells.
+-- What its tests tell.
+pub limit-tells : (limit : ℕ) → notLimit limit ≡ false → limit ≤ airLimit
+unfolding notLimit
+limit-tells limit e = omega (arith, ltb-false airLimit limit e)
+
+module _ (n start : ℕ) where
   pub opening-tells : notOpening n start ≡ false → (2 ≤ n) × (n ≤ 16) × (0 < start)
   unfolding notOpening sizeInRange
   opening-tells e =
@@ -74,7 +102,7 @@ module _ (net : Network) where
 
 -- The calls on memory: all but Open.
 abbrev pub OnMemory : Call → Type 0
-OnMemory (Open n start) = ⊥
+OnMemory (Open n start limit) = ⊥
 OnMemory (Up a b) = Unit {0}
 OnMemory (Down a b) = Unit {0}
 OnMemory (Solicit a t) = Unit {0}
@@ -87,7 +115,7 @@ OnMemory (Duplicate k) = Unit {0}
 -- They test 1 first.
 pub out-of-range : (c : Call) (net : Network) → OnMemory c → memoryInRange net ≡ false → step c net ≡ refused 1
 unfolding step refuse_when_otherwise_
-out-of-range (Open n start) net k h = absurd k
+out-of-range (Open n start limit) net k h = absurd k
 out-of-range (Up a b) net k h = rw h
 out-of-range (Down a b) net k h = rw h
 out-of-range (Solicit a t) net k h = rw h
@@ -186,28 +214,29 @@ module _ (net : Network) (r : memoryInRange net ≡ true) (k : ℕ) where
   unfolding step refuse_when_otherwise_
   duplicate-limited h = simp (r, h)
 
--- 13 and 7, by what is told of the step: whether a station has used up its numbers, and the packets in the air after it.
-module _ (net : Network) (e : Effect) {used : Bool} {air number : ℕ} (u : usedUp net e ≡ used) (a : length (e .net .air) ≡ air)
-    (n : number ≡ (if used then 13 else if ltb airLimit air then 7 else 0)) where
+-- 13 and 7, by what is told of the step: whether a station has used up its numbers, the packets in the air after it, and the limit.
+module _ (net : Network) (e : Effect) {used : Bool} {air limit number : ℕ} (u : usedUp net e ≡ used) (a : length (e .net .air) ≡ air)
+    (l : e .net .limit ≡ limit) (n : number ≡ (if used then 13 else if ltb limit air then 7 else 0)) where
+  over : ltb (e .net .limit) (length (e .net .air)) ≡ ltb limit air
+  over = ap₂ ltb l a
+
   pub limited-refused : number ≢ 0 → limited net e ≡ refused number
   unfolding limited refuse_when_otherwise_
-  limited-refused h = go used u n (ltb airLimit air) (ap (ltb airLimit) a)
+  limited-refused h = rw (u, over) (go used (ltb limit air) n)
     where
-      go : (x : Bool) → usedUp net e ≡ x → number ≡ (if x then 13 else if ltb airLimit air then 7 else 0) → (y : Bool) → ltb airLimit (length (e .net .air)) ≡ y
-          → limited net e ≡ refused number
-      go true p q y k = rw (p, q)
-      go false p q true k = rw (p, k, q, sym (ap (ltb airLimit) a) ∙ k)
-      go false p q false k = absurd (h (rw (q, sym (ap (ltb airLimit) a) ∙ k)))
+      go : (x y : Bool) → number ≡ (if x then 13 else if y then 7 else 0) → (if x then refused 13 else if y then refused 7 else accepted e) ≡ refused number
+      go true y q = rw q
+      go false true q = rw q
+      go false false q = absurd (h q)
 
   pub limited-accepted : number ≡ 0 → limited net e ≡ accepted e
   unfolding limited refuse_when_otherwise_
-  limited-accepted h = go used u n (ltb airLimit air) refl
+  limited-accepted h = rw (u, over) (go used (ltb limit air) n)
     where
-      go : (x : Bool) → usedUp net e ≡ x → number ≡ (if x then 13 else if ltb airLimit air then 7 else 0) → (y : Bool) → ltb airLimit air ≡ y
-          → limited net e ≡ accepted e
-      go true p q y k = absurd (omega arith)
-      go false p q true k = absurd (omega (arith, h, rw k at q))
-      go false p q false k = rw (p, a, k)
+      go : (x y : Bool) → number ≡ (if x then 13 else if y then 7 else 0) → (if x then refused 13 else if y then refused 7 else accepted e) ≡ accepted e
+      go true y q = absurd (omega arith)
+      go false true q = absurd (omega arith)
+      go false false q = refl
 
 -- A station sends no more errors than there are stations.
 pub errors-length : (net : Network) (a mask : ℕ) → length (errors net a mask) ≤ net .n

@@ -154,6 +154,7 @@ module _ {Reachable : Type 0} (a b : ℕ) (net : Network) (ok : WellFormed Reach
   well-formed-parted = record {
     low = ok .low;
     high = ok .high;
+    capped = ok .capped;
     tables = tables-links K′ R₂ T₂ (λ i t hi ht e m he up. still-up i (e .station) hi he
         (λ q. a-left t ht e (subst (λ z. List·Memᴰ e (rowIn R₂ z t)) q m))
         (λ q. b-left t ht e (subst (λ z. List·Memᴰ e (rowIn R₂ z t)) q m)) up);

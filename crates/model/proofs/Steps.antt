@@ -15,11 +15,11 @@ use Rattle.model.specs.Memory.{setRows, setLinks, setNumbers, setSoughts
 use Rattle.model.specs.Memory.{fresh, memoryInRange}
 use Rattle.model.specs.Calls.{Call, Open, Up, Down, Solicit, GiveUp, Expire, Deliver, Lose, Duplicate}
 use Rattle.model.specs.Calls.{Effect, effect, after, limited, notPair, notPacket}
-use Rattle.model.specs.Calls.{solicit, removePacket, notOpening, opening, step, run}
+use Rattle.model.specs.Calls.{solicit, removePacket, notOpening, notLimit, opening, step, run}
 use Rattle.model.proofs.Invariant.{WellFormed, well-formed-numbers, well-formed-actives, well-formed-row, well-formed-sought, cell-empty}
 use Rattle.model.proofs.Range.{Invariant, invariant-in-range, in-range-invariant}
 use Rattle.model.proofs.Fresh.{fresh-invariant}
-use Rattle.model.proofs.Refusals.{opening-tells, pair-tells, packet-tells}
+use Rattle.model.proofs.Refusals.{opening-tells, limit-tells, pair-tells, packet-tells}
 use Rattle.model.proofs.Sending.{air-one, well-formed-append, well-formed-sending, copies-ok, well-formed-remove, well-formed-up, well-formed-down}
 use Rattle.model.proofs.Delivery.{well-formed-deliver}
 
@@ -37,11 +37,12 @@ module _ {Reachable : Type 0} (net : Network) (inv : Invariant Reachable net) wh
   unfolding setRows
   invariant-expire a t ha ht = record { formed = well-formed-row net (inv .formed) a t ha ht [] (cell-empty (inv .formed .tables .cell a t ha ht)); room = inv .room }
 
-  remove-length : (k : ℕ) → length (removePacket k net .air) ≤ length (net .air)
+  pub remove-length : (k : ℕ) → length (removePacket k net .air) ≤ length (net .air)
   unfolding removePacket setAir
   remove-length k = simp (length-append, length-take, length-drop) (omega arith)
 
   invariant-remove : (k : ℕ) → Invariant Reachable (removePacket k net)
+  unfolding removePacket setAir
   invariant-remove k = record { formed = well-formed-remove net (inv .formed) k; room = omega (arith, remove-length k, inv .room) }
 
 well-formed-solicit : {Reachable : Type 0} (a t : ℕ) (net : Network) → WellFormed Reachable net → a < net .n → t < net .n → WellFormed Reachable (solicit a t net .net)
@@ -50,8 +51,8 @@ well-formed-solicit a t net ok ha ht =
     well-formed-sending _ (well-formed-actives _ (well-formed-sought _ (well-formed-numbers net ok _) a t ht) _) 0 a _
     (copies-ok net a ha _ (record { source-below = ha; numbered = omega arith; destination-below = ht; ranged = ok .tables .cell a t ha ht .ranged }) tt)
 
-opening-invariant : {Reachable : Type 0} (n start : ℕ) → notOpening n start ≡ false → Invariant Reachable (fresh n start)
-opening-invariant n start e = let w = opening-tells n start e in fresh-invariant n start (w .0) (w .1) (w .2)
+pub opening-invariant : {Reachable : Type 0} (n start limit : ℕ) → notOpening n start ≡ false → notLimit limit ≡ false → Invariant Reachable (fresh n start limit)
+opening-invariant n start limit e k = let w = opening-tells n start e in fresh-invariant n start limit (w .0) (w .1) (w .2) (limit-tells limit k)
 
 -- A call turned down leaves the network; the tests that it passed tell what the rest may use.
 module _ {Reachable : Type 0} (net : Network) (inv : Invariant Reachable net) where
@@ -79,7 +80,8 @@ module _ {Reachable : Type 0} (net : Network) (inv : Invariant Reachable net) wh
 module _ {Reachable : Type 0} (net : Network) (inv : Invariant Reachable net) where
   pub invariant-step : (c : Call) → Invariant Reachable (after net (step c net))
   unfolding step opening
-  invariant-step (Open n start) = invariant-refuse net inv 1 _ _ (λ e. invariant-accept net inv _ (opening-invariant n start e))
+  invariant-step (Open n start limit) =
+      invariant-refuse net inv 1 _ _ (λ e. invariant-refuse net inv 14 _ _ (λ k. invariant-accept net inv _ (opening-invariant n start limit e k)))
   invariant-step (Up a b) = invariant-pair net inv a b _ (λ ha hb. invariant-refuse net inv 3 _ _ (λ e. invariant-accept net inv _ (invariant-up _ inv a b)))
   invariant-step (Down a b) =
       invariant-pair net inv a b _ (λ ha hb. invariant-refuse net inv 3 _ _ (λ e. invariant-limited net inv _ (well-formed-down a b _ (inv .formed) ha hb)))
@@ -101,12 +103,13 @@ unfolding run
 invariant-run [] net inv = inv
 invariant-run (c ∷ calls) net inv = invariant-run calls (after net (step c net)) (invariant-step net inv c)
 
-pub opened-invariant : {Reachable : Type 0} (n start : ℕ) (e : Effect) → opening n start ≡ accepted e → Invariant Reachable (e .net)
+pub opened-invariant : {Reachable : Type 0} (n start limit : ℕ) (e : Effect) → opening n start limit ≡ accepted e → Invariant Reachable (e .net)
 unfolding opening
-opened-invariant {Reachable} n start e h =
-    let w = not-turned-down 1 (notOpening n start) (accepted (effect 0 0 (fresh n start))) e h in
-    let same : effect 0 0 (fresh n start) ≡ e = same-accepted (w .1) in
-    subst (λ z. Invariant Reachable (z .net)) same (opening-invariant n start (w .0))
+opened-invariant {Reachable} n start limit e h =
+    let w = not-turned-down 1 (notOpening n start) _ e h in
+    let v = not-turned-down 14 (notLimit limit) (accepted (effect 0 0 (fresh n start limit))) e (w .1) in
+    let same : effect 0 0 (fresh n start limit) ≡ e = same-accepted (v .1) in
+    subst (λ z. Invariant Reachable (z .net)) same (opening-invariant n start limit (w .0) (v .0))
 
 -- After an accepted call memory is in range. Open needs nothing of the memory before it; every other call was given memory in range.
 module _ (net : Network) (sized : Sized net) where
@@ -116,7 +119,7 @@ module _ (net : Network) (sized : Sized net) where
 
   accepted-invariant : (c : Call) (e : Effect) → step c net ≡ accepted e → Invariant ⊥ (e .net)
   unfolding step
-  accepted-invariant (Open n start) e h = opened-invariant n start e h
+  accepted-invariant (Open n start limit) e h = opened-invariant n start limit e h
   accepted-invariant (Up a b) e h = invariant-accepted (Up a b) e (not-turned-down 1 _ _ e h .0) h
   accepted-invariant (Down a b) e h = invariant-accepted (Down a b) e (not-turned-down 1 _ _ e h .0) h
   accepted-invariant (Solicit a t) e h = invariant-accepted (Solicit a t) e (not-turned-down 1 _ _ e h .0) h

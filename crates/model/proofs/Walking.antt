@@ -172,4 +172,4 @@ module _ (net : Network) (inv : Invariant (Unit {0}) net) (a t : ℕ) (ha : a < 
 pub loop-free : LoopFree
 unfolding LoopFree
 loop-free net r a t =
-    walks-end net (subst (Invariant (Unit {0})) (sym (r .left)) (invariant-run (r .calls) (r .opened .net) (opened-invariant (r .n) (r .start) (r .opened) (r .opens)))) a t
+    walks-end net (subst (Invariant (Unit {0})) (sym (r .left)) (invariant-run (r .calls) (r .opened .net) (opened-invariant (r .n) (r .start) (r .limit) (r .opened) (r .opens)))) a t

@@ -17,7 +17,7 @@ use Rattle.model.specs.Memory.{fresh, names, without, under, put, airLim
 
 -- The calls of 01's "The list in demand 3", "with any arguments".
 pub data Call : Type 0 where
-  Open : (n start : ℕ) → Call
+  Open : (n start limit : ℕ) → Call
   Up Down : (a b : ℕ) → Call
   Solicit : (a t : ℕ) → Call
   GiveUp : (a : ℕ) → Call
@@ -42,11 +42,11 @@ after net (accepted e) = e .net
 unfoldable pub usedUp : Network → Effect → Bool
 usedUp net e = someBelow (net .n) (λ a. leb maxU64 (serialAt net a) && ltb (serialAt net a) (serialAt (e .net) a))
 
--- "tested after 8, before 7"; 7: "more than 128 packets after the call".
+-- "tested after 8, before 7"; 7: "more than 128 packets after the call", where "7 then reads that limit" that the network keeps (02, F-5).
 unfoldable pub limited : Network → Effect → Result Effect
 limited net e =
     refuse 13 when usedUp net e otherwise
-    refuse 7 when ltb airLimit (length (e .net .air)) otherwise
+    refuse 7 when ltb (e .net .limit) (length (e .net .air)) otherwise
     accepted e
 
 -- 2: "a station ≥ n, or the two equal".
@@ -319,13 +319,18 @@ deliver k net =
 unfoldable pub notOpening : (n start : ℕ) → Bool
 notOpening n start = not (sizeInRange n) || eqb start 0
 
-unfoldable pub opening : ℕ → ℕ → Result Effect
-opening n start =
+-- "(14: limit over 128; tested at Open after 1.)" (02, F-5).
+unfoldable pub notLimit : (limit : ℕ) → Bool
+notLimit limit = ltb airLimit limit
+
+unfoldable pub opening : (n start limit : ℕ) → Result Effect
+opening n start limit =
     refuse 1 when notOpening n start otherwise
-    accepted (effect 0 0 (fresh n start))
+    refuse 14 when notLimit limit otherwise
+    accepted (effect 0 0 (fresh n start limit))
 
 unfoldable pub step : Call → Network → Result Effect
-step (Open n start) net = opening n start
+step (Open n start limit) net = opening n start limit
 step (Up a b) net =
     refuse 1 when not (memoryInRange net) otherwise
     refuse 2 when notPair net a b otherwise

@@ -4,7 +4,7 @@ use Prim.Native.Nat.{ℕ}
 use mathlib.Core.Path.{_≡_}
 use mathlib.Core.List.{List, [], _∷_}
 
-module _ {Action State : Type 0} (opens : (n start : ℕ) → Action) (Ends : Action → (before : State) → (answer : ℕ) → (after : State) → Type 0) where
+module _ {Action State : Type 0} (opens : (n start limit : ℕ) → Action) (Ends : Action → (before : State) → (answer : ℕ) → (after : State) → Type 0) where
   -- "Each call gets the memory that the one before it returned or left": these actions, one after the other on this state, leave that one.
   abbrev pub History : List Action → (before left : State) → Type 0
   History [] before left = left ≡ before
@@ -15,7 +15,8 @@ module _ {Action State : Type 0} (opens : (n start : ℕ) → Action) (Ends : Ac
     pub before : State
     pub n : ℕ
     pub start : ℕ
+    pub limit : ℕ
     pub opened : State
-    pub opening : Ends (opens n start) before 0 opened
+    pub opening : Ends (opens n start limit) before 0 opened
     pub actions : List Action
     pub history : History actions opened left

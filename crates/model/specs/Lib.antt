@@ -5,4 +5,5 @@ pub mod Walks
 pub mod Histories
 pub mod Events
 pub mod Printout
+pub mod Tally
 pub mod Sample

@@ -58,7 +58,8 @@ pub record Packet : Type 0 where
 
 -- "Stations are 0..n−1." Labels and rows have a place for each station and destination, records for each station and source, links for each
 -- pair; last request numbers, destinations last sought and who is active have one for each station. "The packets in the air stand in the
--- order they were sent". "Each station now numbers its sendings from 1" (02, F-4): the number of the last one stands for each station.
+-- order they were sent". "Each station now numbers its sendings from 1" (02, F-4): the number of the last one stands for each station. "Open takes an air
+-- limit of 0 to 128" (02, F-5), which is kept.
 pub record Network : Type 0 where
   pub n : ℕ
   pub labels : List Label
@@ -70,6 +71,7 @@ pub record Network : Type 0 where
   pub active : List Bool
   pub air : List Packet
   pub serials : List ℕ
+  pub limit : ℕ
 
 -- The tables have their sizes, as the arrays that stand for them do.
 pub record Sized (net : Network) : Type 0 where
@@ -137,31 +139,34 @@ packetAt net k = getD (net .air) k zeroPacket
 
 -- Writing: one setter for each field, and from them one for each kind of place.
 unfoldable pub setLabels : List Label → Network → Network
-setLabels l net = record { n = net .n; labels = l; rows = net .rows; records = net .records; links = net .links; numbers = net .numbers; sought = net .sought; active = net .active; air = net .air; serials = net .serials }
+setLabels l net = record { n = net .n; labels = l; rows = net .rows; records = net .records; links = net .links; numbers = net .numbers; sought = net .sought; active = net .active; air = net .air; serials = net .serials; limit = net .limit }
 
 unfoldable pub setRows : List Row → Network → Network
-setRows l net = record { n = net .n; labels = net .labels; rows = l; records = net .records; links = net .links; numbers = net .numbers; sought = net .sought; active = net .active; air = net .air; serials = net .serials }
+setRows l net = record { n = net .n; labels = net .labels; rows = l; records = net .records; links = net .links; numbers = net .numbers; sought = net .sought; active = net .active; air = net .air; serials = net .serials; limit = net .limit }
 
 unfoldable pub setRecords : List Record → Network → Network
-setRecords l net = record { n = net .n; labels = net .labels; rows = net .rows; records = l; links = net .links; numbers = net .numbers; sought = net .sought; active = net .active; air = net .air; serials = net .serials }
+setRecords l net = record { n = net .n; labels = net .labels; rows = net .rows; records = l; links = net .links; numbers = net .numbers; sought = net .sought; active = net .active; air = net .air; serials = net .serials; limit = net .limit }
 
 unfoldable pub setLinks : List Bool → Network → Network
-setLinks l net = record { n = net .n; labels = net .labels; rows = net .rows; records = net .records; links = l; numbers = net .numbers; sought = net .sought; active = net .active; air = net .air; serials = net .serials }
+setLinks l net = record { n = net .n; labels = net .labels; rows = net .rows; records = net .records; links = l; numbers = net .numbers; sought = net .sought; active = net .active; air = net .air; serials = net .serials; limit = net .limit }
 
 unfoldable pub setNumbers : List ℕ → Network → Network
-setNumbers l net = record { n = net .n; labels = net .labels; rows = net .rows; records = net .records; links = net .links; numbers = l; sought = net .sought; active = net .active; air = net .air; serials = net .serials }
+setNumbers l net = record { n = net .n; labels = net .labels; rows = net .rows; records = net .records; links = net .links; numbers = l; sought = net .sought; active = net .active; air = net .air; serials = net .serials; limit = net .limit }
 
 unfoldable pub setSoughts : List ℕ → Network → Network
-setSoughts l net = record { n = net .n; labels = net .labels; rows = net .rows; records = net .records; links = net .links; numbers = net .numbers; sought = l; active = net .active; air = net .air; serials = net .serials }
+setSoughts l net = record { n = net .n; labels = net .labels; rows = net .rows; records = net .records; links = net .links; numbers = net .numbers; sought = l; active = net .active; air = net .air; serials = net .serials; limit = net .limit }
 
 unfoldable pub setActives : List Bool → Network → Network
-setActives l net = record { n = net .n; labels = net .labels; rows = net .rows; records = net .records; links = net .links; numbers = net .numbers; sought = net .sought; active = l; air = net .air; serials = net .serials }
+setActives l net = record { n = net .n; labels = net .labels; rows = net .rows; records = net .records; links = net .links; numbers = net .numbers; sought = net .sought; active = l; air = net .air; serials = net .serials; limit = net .limit }
 
 unfoldable pub setAir : List Packet → Network → Network
-setAir l net = record { n = net .n; labels = net .labels; rows = net .rows; records = net .records; links = net .links; numbers = net .numbers; sought = net .sought; active = net .active; air = l; serials = net .serials }
+setAir l net = record { n = net .n; labels = net .labels; rows = net .rows; records = net .records; links = net .links; numbers = net .numbers; sought = net .sought; active = net .active; air = l; serials = net .serials; limit = net .limit }
 
 unfoldable pub setSerials : List ℕ → Network → Network
-setSerials l net = record { n = net .n; labels = net .labels; rows = net .rows; records = net .records; links = net .links; numbers = net .numbers; sought = net .sought; active = net .active; air = net .air; serials = l }
+setSerials l net = record { n = net .n; labels = net .labels; rows = net .rows; records = net .records; links = net .links; numbers = net .numbers; sought = net .sought; active = net .active; air = net .air; serials = l; limit = net .limit }
+
+unfoldable pub setLimit : ℕ → Network → Network
+setLimit limit net = record { n = net .n; labels = net .labels; rows = net .rows; records = net .records; links = net .links; numbers = net .numbers; sought = net .sought; active = net .active; air = net .air; serials = net .serials; limit = limit }
 
 abbrev pub setLabel : ℕ → ℕ → Label → Network → Network
 setLabel i t l net = setLabels (set (net .labels) (place i t) l) net
@@ -197,8 +202,8 @@ unfoldable pub freshRecord : Record
 freshRecord = record { number = 0; destination = 0; cached = unassigned; lastHop = 0; passed = false }
 
 -- "all start down"; "last request number (32 bits, from 0)"; "every station is passive with last sought 0". Sendings are numbered from 1, so the last is 0.
-unfoldable pub fresh : ℕ → ℕ → Network
-fresh n start = record {
+unfoldable pub fresh : (n start limit : ℕ) → Network
+fresh n start limit = record {
   n = n;
   labels = freshLabels start n;
   rows = replicate 256 [];
@@ -209,6 +214,7 @@ fresh n start = record {
   active = replicate 16 false;
   air = [];
   serials = replicate 16 0;
+  limit = limit;
 }
 
 -- Rows.
@@ -292,9 +298,14 @@ stationInRange net i = ltb (soughtAt net i) (net .n) && allBelow (net .n) (place
 unfoldable pub airInRange : ℕ → List Packet → Bool
 airInRange n air = leb (length air) airLimit && allIn (packetInRange n) air
 
+-- "the kept limit is at most 128 and the air count at most that limit" (02, F-5).
+unfoldable pub limitInRange : (limit air : ℕ) → Bool
+limitInRange limit air = leb limit airLimit && leb air limit
+
 -- "n is 2..16".
 unfoldable pub sizeInRange : ℕ → Bool
 sizeInRange n = leb 2 n && leb n 16
 
 unfoldable pub memoryInRange : Network → Bool
-memoryInRange net = sizeInRange (net .n) && allBelow (net .n) (stationInRange net) && airInRange (net .n) (net .air)
+memoryInRange net =
+    sizeInRange (net .n) && allBelow (net .n) (stationInRange net) && airInRange (net .n) (net .air) && limitInRange (net .limit) (length (net .air))

@@ -1,4 +1,4 @@
--- The example of 01, "Scripts and the printout", and one of 02, F-4: the model prints what stands there.
+-- The example of 01, "Scripts and the printout", and one of 02, F-4: the model prints what stands there. The tally of the first (02, F-5).
 use Prim.Native.Nat.{ℕ}
 use mathlib.Core.Path.{_≡_, refl}
 use mathlib.Core.List.{List, [], _∷_}
@@ -9,7 +9,7 @@ use Rattle.model.specs.Memory.{zeroLabel, zeroRecord, zeroPacket, linkIn
 use Rattle.model.specs.Memory.{setLabels, setRows, setRecords, setLinks, setNumbers, setSoughts, setActives, setAir, setSerials, freshLabels, freshRecord, fresh}
 use Rattle.model.specs.Memory.{names, without, under, replace, withRoom, put}
 use Rattle.model.specs.Memory.{successorInRange, rowInRange, recordInRange, ownInRange, cellInRange, stationInRange}
-use Rattle.model.specs.Memory.{headInRange, bodyInRange, packetInRange, airInRange, sizeInRange, memoryInRange}
+use Rattle.model.specs.Memory.{headInRange, bodyInRange, packetInRange, airInRange, limitInRange, sizeInRange, memoryInRange}
 use Rattle.model.specs.Calls.{after, usedUp, limited, notStation, notPair, notPacket, step, run}
 use Rattle.model.specs.Calls.{append, countOn, send, sending, neighbours, copies, solicit, removePacket, receive, deliver}
 use Rattle.model.specs.Calls.{errors, maskOf, takeOut, removes, empties, emptied, between, everyDestination, lost, parted, down, bit, errorOutcome, withdrawn, onError}
@@ -17,6 +17,7 @@ use Rattle.model.specs.Calls.{recorded, markPassed, replyTo, resets, atD
 use Rattle.model.specs.Calls.{matches, cachedAt, adopt, settle, passesOn, passOn, onOutcome, onReply, nextOf, follow, trace}
 use Rattle.model.specs.Events.{usesOne, notEvent, callOf, eventOf, eventAt, callsIn, afterEvents}
 use Rattle.model.specs.Printout.{Line, line, resultLine, lineOf, LabelLine, labelLine, isListed, labelLineAt, stationLines, labelLines, lineAt, eventLines, routeLines}
+use Rattle.model.specs.Tally.{tally, highestAir, tallyOf}
 
 -- "03 0900 0100000000000000 010103060607060609 0001 0102 0200 0000 0000 0000 0000 0000 0200".
 unfoldable pub kinds : List ℕ
@@ -71,22 +72,32 @@ lateLines =
     ∷ line 17 9 2 0 131 0 0 2
     ∷ []
 
--- From three stations and start 1 these events print these lines and these routes.
-abbrev pub Prints : (kinds operands : List ℕ) → List Line → List LabelLine → Type 0
-Prints kinds operands lines routes = (eventLines (fresh 3 1) kinds operands ≡ lines) × (routeLines (fresh 3 1) kinds operands ≡ routes)
+-- From three stations, start 1 and this air limit these events print these lines and these routes.
+abbrev pub Prints : (limit : ℕ) (kinds operands : List ℕ) → List Line → List LabelLine → Type 0
+Prints limit kinds operands lines routes = (eventLines (fresh 3 1 limit) kinds operands ≡ lines) × (routeLines (fresh 3 1 limit) kinds operands ≡ routes)
 
-computed : Prints kinds operands lines routes × Prints lateKinds lateOperands lateLines routes
-unfolding eventLines lineAt lineOf resultLine routeLines labelLines stationLines labelLineAt isListed afterEvents kinds operands lines routes lateKinds lateOperands lateLines callsIn run eventAt eventOf callOf notEvent usesOne tabulate step after refuse_when_otherwise_ usedUp limited notStation notPair notPacket sizeInRange memoryInRange stationInRange airInRange
+computed : Prints 128 kinds operands lines routes × Prints 128 lateKinds lateOperands lateLines routes × Prints 2 kinds operands lines routes
+    × (lineAt (fresh 3 1 1) kinds operands 3 ≡ line 3 6 0 0 7 0 1 0)
+unfolding eventLines lineAt lineOf resultLine routeLines labelLines stationLines labelLineAt isListed afterEvents kinds operands lines routes lateKinds lateOperands lateLines callsIn run eventAt eventOf callOf notEvent usesOne tabulate step after refuse_when_otherwise_ usedUp limited notStation notPair notPacket sizeInRange memoryInRange stationInRange airInRange limitInRange
     cellInRange rowInRange recordInRange ownInRange headInRange bodyInRange packetInRange successorInRange allBelow someBelow below allIn someIn keep
     isEmpty distinct unassigned isUnassigned inRange above fitting next split newLabel zeroLabel zeroRecord zeroPacket linkIn setLabels
     setRows setRecords setLinks setNumbers setSoughts setActives setAir setSerials freshLabels freshRecord fresh names without under replace withRoom
     put append countOn send sending neighbours copies solicit recorded markPassed replyTo resets atDestination canReply onwardLabel onwardReset onward
     engage onRequest matches cachedAt adopt settle passesOn passOn onOutcome onReply removePacket receive deliver nextOf follow trace
     errors maskOf takeOut removes empties emptied between everyDestination lost parted down bit errorOutcome withdrawn onError
-computed = ((refl, refl), (refl, refl))
+computed = ((refl, refl), (refl, refl), (refl, refl), refl)
 
-pub prints : Prints kinds operands lines routes
+pub prints : Prints 128 kinds operands lines routes
 prints = computed .0
 
-pub prints-late : Prints lateKinds lateOperands lateLines routes
+pub prints-late : Prints 128 lateKinds lateOperands lateLines routes
 prints-late = computed .1
+
+-- The tally of 01's example (02, F-5): nine events, and two packets in the air at most. Under the limit 2 it prints the same; under 1 the first
+-- event that left two packets is answered 7.
+pub tallies : tallyOf lines ≡ tally 9 2
+unfolding tallyOf highestAir lines
+tallies = refl
+
+pub prints-under : Prints 2 kinds operands lines routes × (lineAt (fresh 3 1 1) kinds operands 3 ≡ line 3 6 0 0 7 0 1 0)
+prints-under = (computed .2, computed .3)

@@ -59,8 +59,9 @@ pub record WalksEnd (net : Network) (a t : ℕ) (told : Traced) : Type 0 where
 pub record Reached (net : Network) : Type 0 where
   pub n : ℕ
   pub start : ℕ
+  pub limit : ℕ
   pub opened : Effect
-  pub opens : opening n start ≡ accepted opened
+  pub opens : opening n start limit ≡ accepted opened
   pub calls : List Call
   pub left : net ≡ run calls (opened .net)
 

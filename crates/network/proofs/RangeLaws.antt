@@ -10,7 +10,7 @@ use borrow.Author.Tests.{lt-ltb, leb-true}
 use Rattle.base.specs.Lists.{allBelow, someIn, tabulate, distinct}
 use Rattle.base.proofs.Booleans.{both, Trichotomy, less, equal, more, trichotomy}
 use Rattle.base.proofs.Loops.{tabulate-length, all-pairs, all-square, distinct-tabulate}
-use Rattle.model.specs.Memory.{Successor, names, stations, headInRange, bodyInRange, sizeInRange, cellInRange, placeInRange, airInRange}
+use Rattle.model.specs.Memory.{Successor, names, stations, headInRange, bodyInRange, sizeInRange, cellInRange, placeInRange, airInRange, limitInRange}
 use Rattle.model.specs.Memory.{stationInRange, memoryInRange}
 use Rattle.rows.specs.declared.Row.{Row}
 use Rattle.rows.specs.View.{zeroRow, entryOf, rowOf}
@@ -20,6 +20,7 @@ use Rattle.network.specs.declared.Packet.{Packet}
 use Rattle.network.specs.declared.Memory.{Memory}
 use Rattle.network.specs.View.{zeroRecord, recordOf, requestOf, replyOf, bodyOf, airOf, labelOf, view}
 use Rattle.network.proofs.ViewLaws.{row-at, record-at, label-at, body-request, body-reply, body-error, body-other}
+use Rattle.network.proofs.PacketLaws.{air-length}
 
 -- A number other than 0 is over it.
 pub over-zero : (k : ℕ) → k ≢ 0 → ltb 0 k ≡ true
@@ -81,7 +82,9 @@ abbrev soughtInRange : Memory → ℕ → Bool
 soughtInRange memory i = ltb (getD (memory .sought) i 0) (memory .n)
 
 unfoldable pub frame : Memory → Bool
-frame memory = sizeInRange (memory .n) && allBelow (memory .n) (soughtInRange memory) && airInRange (memory .n) (airOf (memory .air))
+frame memory =
+    sizeInRange (memory .n) && allBelow (memory .n) (soughtInRange memory) && airInRange (memory .n) (airOf (memory .air))
+    && limitInRange (memory .limit) (memory .air .count)
 
 unfoldable pub placed : Memory → ℕ → Bool
 placed memory at = leb (memory .n) (at % 16) || placeInRange (view memory) (at / 16) (at % 16)
@@ -89,7 +92,7 @@ placed memory at = leb (memory .n) (at % 16) || placeInRange (view memory) (at /
 module _ (memory : Memory) where
   pub frame-at-most : frame memory ≡ true → memory .n ≤ 16
   unfolding frame
-  frame-at-most e = size-at-most (memory .n) (both _ _ (both _ _ e .0) .0)
+  frame-at-most e = size-at-most (memory .n) (both _ _ (both _ _ (both _ _ e .0) .0) .0)
 
   pub placed-at : (at : ℕ) → at < 256 → placed memory at ≡ leb (memory .n) (at % 16)
       || cellInRange (memory .n) (at / 16) (at % 16) (labelOf (memory .s) (memory .m) (memory .d) at) (rowOf (getD (memory .rows) at zeroRow))
@@ -110,15 +113,27 @@ module _ (memory : Memory) where
   -- Memory is in range if its frame and those places are.
   pub memory-range : memoryInRange (view memory) ≡ frame memory && allBelow (16 * memory .n) (placed memory)
   unfolding memoryInRange view frame
-  memory-range = go (sizeInRange (memory .n)) refl
+  memory-range = rw (air-length (memory .air)) (go (sizeInRange (memory .n)) refl)
     where
+      sought : Bool
+      sought = allBelow (memory .n) (soughtInRange memory)
+
+      places : Bool
+      places = allBelow (16 * memory .n) (placed memory)
+
+      packets : Bool
+      packets = airInRange (memory .n) (airOf (memory .air))
+
+      limit : Bool
+      limit = limitInRange (memory .limit) (memory .air .count)
+
       shuffle : (a b c : Bool) → (a && b) && c ≡ (a && c) && b
       shuffle true b c = and-comm b c
       shuffle false b c = refl
 
       go : (b : Bool) → sizeInRange (memory .n) ≡ b
-          → (b && allBelow (memory .n) (stationInRange (view memory))) && airInRange (memory .n) (airOf (memory .air))
-          ≡ ((b && allBelow (memory .n) (soughtInRange memory)) && airInRange (memory .n) (airOf (memory .air)))
-          && allBelow (16 * memory .n) (placed memory)
-      go true e = rw (stations-range (size-at-most (memory .n) e)) (shuffle (allBelow (memory .n) (soughtInRange memory)) _ _)
+          → ((b && allBelow (memory .n) (stationInRange (view memory))) && packets) && limit ≡ (((b && sought) && packets) && limit) && places
+      go true e =
+          rw (stations-range (size-at-most (memory .n) e))
+          (ap (λ (b : Bool). b && limit) (shuffle sought places packets) ∙ shuffle (sought && packets) places limit)
       go false e = refl

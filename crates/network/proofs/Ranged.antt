@@ -72,6 +72,8 @@ carried n p ok = record {
 pub record Ranged (memory : Memory) : Type 0 where
   pub low : 2 ≤ memory .n
   pub high : memory .n ≤ 16
+  pub limit-most : memory .limit ≤ airLimit
+  pub within-limit : memory .air .count ≤ memory .limit
   pub air-count : memory .air .count ≤ airLimit
   pub packet : (k : ℕ) → k < memory .air .count → Carried (memory .n) (getD (memory .air .packets) k zeroPacket)
   pub row : (i t : ℕ) → i < memory .n → t < memory .n → NamesOnce (getD (memory .rows) (place i t) zeroRow)
@@ -117,7 +119,9 @@ module _ (memory : Memory) (k : Invariant ⊥ (view memory)) where
   ranged = record {
     low = k .formed .low;
     high = k .formed .high;
-    air-count = omega (arith, k .room, air-length (memory .air));
+    limit-most = k .formed .capped;
+    within-limit = omega (arith, k .room, air-length (memory .air));
+    air-count = omega (arith, k .room, k .formed .capped, air-length (memory .air));
     packet = packet-carried;
     row = names-once;
     successor = successor-below;

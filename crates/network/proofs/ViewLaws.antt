@@ -97,7 +97,7 @@ labels-own start t s m d long h e =
     rw add-one (labels-set s m d long (place t t) start 0 1 (omega arith) ∙ ap (λ l. set l (place t t) (label start 0 1)) e)
 
 -- Fresh memory: tables of one row without entries and of one fresh record, and nothing in the air.
-pub view-fresh : (n start : ℕ) (s m d : List ℕ) (row : Row) (kept : Record) (air : Air)
+pub view-fresh : (n start limit : ℕ) (s m d : List ℕ) (row : Row) (kept : Record) (air : Air)
     → tabulate 256 (labelOf s m d) ≡ freshLabels start n → rowOf row ≡ [] → recordOf kept ≡ freshRecord → airOf air ≡ []
     → view (record {
       s = s;
@@ -112,7 +112,8 @@ pub view-fresh : (n start : ℕ) (s m d : List ℕ) (row : Row) (kept : Record) 
       active = replicate 16 false;
       links = replicate 256 false;
       n = n;
-    }) ≡ fresh n start
+      limit = limit;
+    }) ≡ fresh n start limit
 unfolding view fresh
-view-fresh n start s m d row kept air labels rows records none =
+view-fresh n start limit s m d row kept air labels rows records none =
     rw (labels, map-replicate rowOf 256 row, rows, map-replicate recordOf 256 kept, records, map-replicate (λ (k : RequestNumber). k .0) 16 zeroNumber, none)

@@ -89,6 +89,7 @@ view memory = record {
   active = memory .active;
   air = airOf (memory .air);
   serials = memory .serials;
+  limit = memory .limit;
 }
 
 -- The tables have their lengths.

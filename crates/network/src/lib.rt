@@ -1,6 +1,7 @@
 // The network's memory by value (01, "The network's memory"). specs/View.antt reads it as the model's network.
 use label::Label;
 use rows::Row;
+use validation::AIR_LIMIT;
 
 pub mod links;
 pub mod masks;
@@ -8,9 +9,6 @@ pub mod opening;
 pub mod packets;
 pub mod places;
 pub mod range;
-
-// The most packets in the air.
-pub const AIR_LIMIT: u8 = 128;
 
 // A source's request number.
 pub struct RequestNumber(pub u32);
@@ -46,7 +44,7 @@ pub struct Air {
 }
 
 // The memory. What station i holds for station t stands at 16·i + t, and the link of two stations where the lower one holds the other. A
-// station's sendings are numbered; serials[i] is the number of its last.
+// station's sendings are numbered; serials[i] is the number of its last. At most `limit` packets are in the air after a call.
 pub struct Memory {
     pub s: [u64; 256],
     pub m: [u32; 256],
@@ -60,4 +58,5 @@ pub struct Memory {
     pub links: [bool; 256],
     pub air: Air,
     pub n: u8,
+    pub limit: u8,
 }

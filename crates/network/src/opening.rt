@@ -3,7 +3,6 @@ ghost use mathlib.Core.Path.{_≡_};
 ghost use Prim.Native.Nat.{_≤_};
 ghost use Rattle.model.specs.Memory.{fresh};
 ghost use Rattle.network.specs.View.{view};
-use crate::AIR_LIMIT;
 use crate::Air;
 use crate::Memory;
 use crate::Packet;
@@ -13,11 +12,12 @@ use crate::places::place;
 use label::Label;
 use label::SequenceNumber;
 use rows::empty_row;
+use validation::AIR_LIMIT;
 
-// Fresh memory of n stations.
-pub fn fresh(n: u8, start: u64) -> Memory
+// Fresh memory of n stations, with this air limit.
+pub fn fresh(n: u8, start: u64, limit: u8) -> Memory
     requires { ⌜ n ≤ 16 ⌝ }
-    ensures { λ r. ⌜ view r ≡ fresh n start ⌝ }
+    ensures { λ r. ⌜ view r ≡ fresh n start limit ⌝ }
 {
     let mut s = [0; 256];
     let mut m = [1; 256];
@@ -81,5 +81,6 @@ pub fn fresh(n: u8, start: u64) -> Memory
         links: links,
         air: air,
         n: n,
+        limit: limit,
     }
 }

@@ -7,13 +7,13 @@ ghost use Rattle.base.specs.Lists.{below, removed};
 ghost use Rattle.model.specs.Memory.{linkIn, request, reply, error, airLimit};
 ghost use Rattle.model.specs.Calls.{packet, between, dropBetween};
 ghost use Rattle.network.specs.View.{bodyOf, packetOf, packetsOf, numbered};
-use crate::AIR_LIMIT;
 use crate::Packet;
 use crate::RequestNumber;
 use crate::links::joined;
 use crate::places::pair_place;
 use label::Label;
 use label::label_of;
+use validation::AIR_LIMIT;
 
 // A request, from nobody to nobody, not numbered.
 pub fn request(

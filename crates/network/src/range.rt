@@ -6,10 +6,9 @@ ghost use lib.Dec.{ltb, leb};
 ghost use lib.ListN.{getD};
 ghost use Rattle.base.specs.Lists.{allBelow, allIn, distinct};
 ghost use Rattle.model.specs.Memory.{stations, successorInRange, rowInRange, recordInRange, ownInRange, cellInRange, rowLimit};
-ghost use Rattle.model.specs.Memory.{headInRange, bodyInRange, packetInRange, airInRange, sizeInRange, memoryInRange};
+ghost use Rattle.model.specs.Memory.{headInRange, bodyInRange, packetInRange, airInRange, limitInRange, sizeInRange, memoryInRange};
 ghost use Rattle.rows.specs.View.{successorOf, rowOf};
 ghost use Rattle.network.specs.View.{recordOf, bodyOf, packetOf, airOf, view};
-use crate::AIR_LIMIT;
 use crate::Air;
 use crate::Memory;
 use crate::Packet;
@@ -21,6 +20,7 @@ use rows::Row;
 use rows::Successor;
 use rows::entry;
 use rows::find;
+use validation::AIR_LIMIT;
 use validation::size_in_range;
 
 // An entry of a row that i holds: another station, and a label in range.
@@ -246,17 +246,31 @@ fn sought_in_range(sought: [u8; 16], n: u8) -> bool
     true
 }
 
-// What stands in no table: n, the destinations last sought and the air.
-fn frame_in_range(n: u8, sought: [u8; 16], air: Air) -> bool
-    ensures { λ r. ⌜ r ≡ sizeInRange n && allBelow n (λ i. ltb (getD sought i 0) n) && airInRange n (airOf air) ⌝ }
+// The limit kept, and the number of packets in the air.
+fn limit_in_range(limit: u8, count: u8) -> bool
+    ensures { λ r. ⌜ r ≡ limitInRange limit count ⌝ }
 {
+    if AIR_LIMIT < limit {
+        return false;
+    }
+    count <= limit
+}
+
+// What stands in no table: n, the destinations last sought, the air and its limit.
+fn frame_in_range(n: u8, sought: [u8; 16], air: Air, limit: u8) -> bool
+    ensures { λ r. ⌜ r ≡ sizeInRange n && allBelow n (λ i. ltb (getD sought i 0) n) && airInRange n (airOf air) && limitInRange limit (air .count) ⌝ }
+{
+    let count = air.count;
     if !size_in_range(n as usize) {
         return false;
     }
     if !sought_in_range(sought, n) {
         return false;
     }
-    air_in_range(air, n)
+    if !air_in_range(air, n) {
+        return false;
+    }
+    limit_in_range(limit, count)
 }
 
 // Whether the memory is in range.
@@ -266,7 +280,8 @@ pub fn in_range(memory: Memory) -> bool
     let n = memory.n;
     let sought = memory.sought;
     let air = memory.air;
-    if !frame_in_range(n, sought, air) {
+    let limit = memory.limit;
+    if !frame_in_range(n, sought, air, limit) {
         return false;
     }
     let count = 16 * (n as usize);

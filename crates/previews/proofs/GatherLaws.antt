@@ -61,6 +61,7 @@ module _ (m : Memory) (k : ℕ) where
         sought = getD (m .sought) i 0;
         n = m .n;
         count = m .air .count;
+        limit = m .limit;
       } ≡ gatheredOf m k
   gathered-is a b c d e = rw (d, e, b, c, a)
 
@@ -123,7 +124,7 @@ module _ {m : Memory} {k r : ℕ} {w : Gathered} (s : InRange m) (e : w ≡ gath
     ErrorShown x = x .packet .kind ≡ 3 → (cut : Cut) (losses : Losses) → ErrorCuts (x .packet) cut
         → Lost cut (map rowOf (m .rows)) (x .n) losses → (l : Label) (row : model.Row) (answer number scope : ℕ) → l ≡ zeroLabel → row ≡ [] → answer ≡ errorOutcome (losses .removed) (losses .emptied)
         → ErrorScope scope (losses .emptied) → ((q : Packet) → number ≡ length (sentBy scope (x .links) (x .n) (x .packet .receiver) q))
-        → unlessStopped (x .serial) number (x .count - 1 + number) (shows answer number l row (losses .emptied)) ≡ preview (view m) k
+        → unlessStopped (x .limit) (x .serial) number (x .count - 1 + number) (shows answer number l row (losses .emptied)) ≡ preview (view m) k
 
     pub gathered-error : ErrorShown w
     unfolding view setAir
@@ -156,7 +157,7 @@ module _ {m : Memory} {k r : ℕ} {w : Gathered} (s : InRange m) (e : w ≡ gath
     abbrev ReactionShown : Gathered → Type 0
     ReactionShown x = x .packet .kind ≢ 3 → (c : Change) → Reacts (x .packet) (x .held) (x .last) (x .sought) (x .links) c
         → (number : ℕ) → ((q : Packet) → number ≡ length (sentBy (c .scope) (x .links) (x .n) (x .packet .receiver) q))
-        → unlessStopped (x .serial) number (x .count - 1 + number) (shows (c .answer) number (c .holding .label) (rowOf (c .holding .row)) 0) ≡ preview (view m) k
+        → unlessStopped (x .limit) (x .serial) number (x .count - 1 + number) (shows (c .answer) number (c .holding .label) (rowOf (c .holding .row)) 0) ≡ preview (view m) k
 
     pub gathered-reaction : ReactionShown w
     gathered-reaction = subst ReactionShown (sym e) (λ q c re number counts.

@@ -14,7 +14,7 @@ use Rattle.base.specs.Numbers.{maxU64}
 use Rattle.base.proofs.Booleans.{Trichotomy, less, equal, more, trichotomy}
 use Rattle.label.specs.declared.Label.{Label}
 use Rattle.model.specs.Memory as model
-use Rattle.model.specs.Memory.{Network, zeroLabel, place, setLabels, setRows, setRecords, setActives, setAir, setSerials, airLimit, memoryInRange}
+use Rattle.model.specs.Memory.{Network, zeroLabel, place, setLabels, setRows, setRecords, setActives, setAir, setSerials, memoryInRange}
 use Rattle.model.specs.Calls.{Deliver, Effect, usedUp, limited, append, send, sending, errors, bit, withdrawn, errorOutcome, step}
 use Rattle.model.specs.Events.{usesOne, notEvent, callOf, eventOf}
 use Rattle.model.specs.Preview.{Preview, shows, numberShown, holdingShown, emptyingShown, effectShown, preview}
@@ -44,12 +44,12 @@ use Rattle.steps.proofs.CutLaws.{Lost}
 use Rattle.previews.specs.Shown.{unlessStopped}
 
 -- 13 or 7, or all that is shown.
-module _ (serial sent air : ℕ) {stop : ℕ} (is : stop ≡ sendingRefusal airLimit air serial sent 0 0) where
-  pub shown-stopped : {r : Preview} (v : Preview) → stop ≢ 0 → r ≡ numberShown stop → r ≡ unlessStopped serial sent air v
+module _ (limit serial sent air : ℕ) {stop : ℕ} (is : stop ≡ sendingRefusal limit air serial sent 0 0) where
+  pub shown-stopped : {r : Preview} (v : Preview) → stop ≢ 0 → r ≡ numberShown stop → r ≡ unlessStopped limit serial sent air v
   unfolding unlessStopped
   shown-stopped v h e = e ∙ rw (← is, ne-eqb stop 0 h)
 
-  pub shown-whole : (v : Preview) → stop ≡ 0 → v ≡ unlessStopped serial sent air v
+  pub shown-whole : (v : Preview) → stop ≡ 0 → v ≡ unlessStopped limit serial sent air v
   unfolding unlessStopped
   shown-whole v zero = rw (← is, zero)
 
@@ -91,23 +91,23 @@ module _ {memory : Memory} {k r : ℕ} (h : Looked memory k r) where
 
     -- 13 or 7, or what is shown of the effect.
     effect-shown : (e : Effect) (serial sent total : ℕ) → step (Deliver k) (view memory) ≡ limited (view memory) e → usedUp (view memory) e ≡ leb maxU64 serial && ltb 0 sent
-        → length (e .net .air) ≡ total → preview (view memory) k ≡ unlessStopped serial sent total (effectShown (p .receiver) (bodyOf p) (view memory) e)
+        → length (e .net .air) ≡ total → e .net .limit ≡ memory .limit → preview (view memory) k ≡ unlessStopped (memory .limit) serial sent total (effectShown (p .receiver) (bodyOf p) (view memory) e)
     unfolding packetOf
-    effect-shown e serial sent total steps used air = go (eqb stop 0) refl
+    effect-shown e serial sent total steps used air limit = go (eqb stop 0) refl
       where
         stop : ℕ
-        stop = sendingRefusal airLimit total serial sent 0 0
+        stop = sendingRefusal (memory .limit) total serial sent 0 0
 
-        counts : stop ≡ (if leb maxU64 serial && ltb 0 sent then 13 else if ltb airLimit total then 7 else 0)
-        counts = first-alone airLimit total serial sent 0 0 refl refl
+        counts : stop ≡ (if leb maxU64 serial && ltb 0 sent then 13 else if ltb (memory .limit) total then 7 else 0)
+        counts = first-alone (memory .limit) total serial sent 0 0 refl refl
 
-        go : (x : Bool) → eqb stop 0 ≡ x → preview (view memory) k ≡ unlessStopped serial sent total (effectShown (p .receiver) (bodyOf p) (view memory) e)
+        go : (x : Bool) → eqb stop 0 ≡ x → preview (view memory) k ≡ unlessStopped (memory .limit) serial sent total (effectShown (p .receiver) (bodyOf p) (view memory) e)
         go true q =
             let zero = eqb-true stop 0 q in
-            preview-accepted (view memory) k e (steps ∙ limited-accepted (view memory) e used air counts zero) ∙ rw packet-is (shown-whole serial sent total refl _ zero)
+            preview-accepted (view memory) k e (steps ∙ limited-accepted (view memory) e used air limit counts zero) ∙ rw packet-is (shown-whole (memory .limit) serial sent total refl _ zero)
         go false q =
             let some = eqb-false stop 0 q in
-            shown-stopped serial sent total refl _ some (preview-refused (view memory) k stop (steps ∙ limited-refused (view memory) e used air counts some))
+            shown-stopped (memory .limit) serial sent total refl _ some (preview-refused (view memory) k stop (steps ∙ limited-refused (view memory) e used air limit counts some))
 
     -- An error.
     module _ (is-error : p .kind ≡ 3) {cut : Cut} {losses : Losses} (cuts : ErrorCuts p cut)
@@ -119,11 +119,11 @@ module _ {memory : Memory} {k r : ℕ} (h : Looked memory k r) where
       serial = getD (memory .serials) (p .receiver) 0
 
       error-is : preview (view memory) k
-          ≡ unlessStopped serial (length sent) (count - 1 + length sent) (shows (errorOutcome (losses .removed) (losses .emptied)) (length sent) zeroLabel [] (losses .emptied))
+          ≡ unlessStopped (memory .limit) serial (length sent) (count - 1 + length sent) (shows (errorOutcome (losses .removed) (losses .emptied)) (length sent) zeroLabel [] (losses .emptied))
       unfolding effectShown emptyingShown sending send append setAir setRows setSerials view
       error-is =
           let does = error-does h zero refl is-error cuts lost in
-          effect-shown (telling h zero refl is-error cuts lost) serial (length sent) (count - 1 + length sent) (error-steps h zero refl is-error cuts lost) (does .used-is) (does .total-is)
+          effect-shown (telling h zero refl is-error cuts lost) serial (length sent) (count - 1 + length sent) (error-steps h zero refl is-error cuts lost) (does .used-is) (does .total-is) (does .limit-is)
           ∙ rw (
             body-error p is-error,
             gone-is h zero refl is-error cuts lost,
@@ -132,7 +132,7 @@ module _ {memory : Memory} {k r : ℕ} (h : Looked memory k r) where
 
       -- With the numbers that the code found.
       pub error-shown : {l : Label} {row : model.Row} {answer number : ℕ} → l ≡ zeroLabel → row ≡ [] → answer ≡ errorOutcome (losses .removed) (losses .emptied) → number ≡ length sent
-          → unlessStopped serial number (count - 1 + number) (shows answer number l row (losses .emptied)) ≡ preview (view memory) k
+          → unlessStopped (memory .limit) serial number (count - 1 + number) (shows answer number l row (losses .emptied)) ≡ preview (view memory) k
       error-shown a b c d = rw (a, b, c, d) (sym error-is)
 
     -- A request or a reply.
@@ -168,7 +168,7 @@ module _ {memory : Memory} {k r : ℕ} {w : Spot} {cell slot : ℕ} {l : Label} 
     replies = sentBy (c .scope) (memory .links) (memory .n) (w .station) (numbered (c .packet) (own-serial + 1))
 
     reaction-is : preview (view memory) k
-        ≡ unlessStopped own-serial (length replies) (memory .air .count - 1 + length replies) (shows (c .answer) (length replies) (c .holding .label) (rowOf (c .holding .row)) 0)
+        ≡ unlessStopped (memory .limit) own-serial (length replies) (memory .air .count - 1 + length replies) (shows (c .answer) (length replies) (c .holding .label) (rowOf (c .holding .row)) 0)
     unfolding holding holdingShown sending send append setAir setLabels setRows setRecords setActives setSerials view
     reaction-is =
         let s = receiver g refl q in
@@ -183,7 +183,7 @@ module _ {memory : Memory} {k r : ℕ} {w : Spot} {cell slot : ℕ} {l : Label} 
         let does = reaction-does (g .tested) (g .zero-is) refl q cell slot l at kept-at (g .label-is) (reaction c) reacts list refl in
         effect-shown (g .tested) (g .zero-is) (reacting (g .tested) (g .zero-is) refl q cell slot l at kept-at (g .label-is) (reaction c) reacts list refl)
         (getD (memory .serials) (arriving .receiver) 0) (length list) (memory .air .count - 1 + length list)
-        (reaction-steps (g .tested) (g .zero-is) refl q cell slot l at kept-at (g .label-is) (reaction c) reacts list refl) (does .used-is) (does .total-is)
+        (reaction-steps (g .tested) (g .zero-is) refl q cell slot l at kept-at (g .label-is) (reaction c) reacts list refl) (does .used-is) (does .total-is) (does .limit-is)
         ∙ rw (
           body-shown (g .tested) (g .zero-is) q,
           getD-set-same (view memory .labels) (place (arriving .receiver) (arriving .destination)) (c .holding .label) zeroLabel (omega (arith, here, sizes .labels-length)),
@@ -193,5 +193,5 @@ module _ {memory : Memory} {k r : ℕ} {w : Spot} {cell slot : ℕ} {l : Label} 
 
     -- With the number that the code found.
     pub reaction-shown : {number : ℕ} → number ≡ length replies
-        → unlessStopped own-serial number (memory .air .count - 1 + number) (shows (c .answer) number (c .holding .label) (rowOf (c .holding .row)) 0) ≡ preview (view memory) k
+        → unlessStopped (memory .limit) own-serial number (memory .air .count - 1 + number) (shows (c .answer) number (c .holding .label) (rowOf (c .holding .row)) 0) ≡ preview (view memory) k
     reaction-shown e = rw e (sym reaction-is)

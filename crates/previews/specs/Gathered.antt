@@ -24,7 +24,7 @@ heldFor m p =
       active = getD (m .active) i false;
     }
 
--- Packet k, what its receiver holds for it, its last serial number, its last request and its rows; the links, and the numbers of stations and packets.
+-- Packet k, what its receiver holds for it, its last serial number, its last request and its rows; the links, the numbers of stations and packets, and the limit.
 abbrev pub gatheredOf : Memory → (k : ℕ) → Gathered
 gatheredOf m k =
     let p = getD (m .air .packets) (k % 128) zeroPacket in
@@ -39,6 +39,7 @@ gatheredOf m k =
       sought = getD (m .sought) i 0;
       n = m .n;
       count = m .air .count;
+      limit = m .limit;
     }
 
 -- Memory in range, whose tables have their lengths.

@@ -17,7 +17,6 @@ use decisions::refusing::refusal;
 use decisions::refusing::sending_refusal;
 use label::Label;
 use label::label_of;
-use network::AIR_LIMIT;
 use network::Memory;
 use network::Packet;
 use network::RequestNumber;
@@ -27,6 +26,7 @@ use rows::empty_row;
 use station::Holding;
 use station::sending::copies;
 use station::sending::error_scope;
+use validation::AIR_LIMIT;
 
 // What a delivery would give: its answer, how many packets it sends, the label and row that the receiver then has for the packet's
 // destination; of an error instead the mask of the rows that it empties.
@@ -39,7 +39,7 @@ pub struct Preview {
 }
 
 // What a preview reads of a network: packet k, what its receiver holds for it, the receiver's last serial number, its last request and its
-// rows, the links, and how many stations and packets there are.
+// rows, the links, how many stations and packets there are, and the air limit.
 pub struct Gathered {
     pub rows: [Row; 16],
     pub held: Holding,
@@ -50,6 +50,7 @@ pub struct Gathered {
     pub sought: u8,
     pub n: u8,
     pub count: u8,
+    pub limit: u8,
 }
 
 // A number, and nothing else.
@@ -68,12 +69,21 @@ pub fn turned_down(number: u32) -> Preview
 }
 
 // What is shown where so many packets are left and a station with this last serial number sends so many: 13 where it has none left, 7 where
-// the packets are too many, or all this.
-fn shown(label: Label, row: Row, mask: u16, answer: u32, serial: u64, left: u8, sent: u8) -> Preview
+// the packets are over the limit, or all this.
+fn shown(
+    label: Label,
+    row: Row,
+    mask: u16,
+    answer: u32,
+    limit: u8,
+    serial: u64,
+    left: u8,
+    sent: u8,
+) -> Preview
     requires { ⌜ left + sent < 2 ^ 8 ⌝ }
-    ensures { λ r. ⌜ previewOf r ≡ unlessStopped serial sent (left + sent) (shows answer sent label (rowOf row) mask) ⌝ }
+    ensures { λ r. ⌜ previewOf r ≡ unlessStopped limit serial sent (left + sent) (shows answer sent label (rowOf row) mask) ⌝ }
 {
-    let stop = sending_refusal(AIR_LIMIT, left + sent, serial, sent, 0, 0);
+    let stop = sending_refusal(limit, left + sent, serial, sent, 0, 0);
     if stop != 0 {
         return turned_down(stop);
     }
@@ -91,6 +101,7 @@ pub fn gather(memory: Memory, k: u8) -> Gathered
     ensures { λ r. ⌜ r ≡ gatheredOf memory k ⌝ }
 {
     let n = memory.n;
+    let limit = memory.limit;
     let air = memory.air;
     let links = memory.links;
     let at = (k % AIR_LIMIT) as usize;
@@ -133,6 +144,7 @@ pub fn gather(memory: Memory, k: u8) -> Gathered
         sought: sought,
         n: n,
         count: air.count,
+        limit: limit,
     }
 }
 
@@ -150,6 +162,7 @@ pub fn preview_of(seen: Gathered, k: u8) -> Preview
         return turned_down(number);
     }
     let left = count - 1;
+    let limit = seen.limit;
     let serial = seen.serial;
     let links = seen.links;
     let station = p.receiver;
@@ -177,6 +190,7 @@ pub fn preview_of(seen: Gathered, k: u8) -> Preview
             empty_row(),
             mask,
             answer,
+            limit,
             serial,
             left,
             sent,
@@ -192,5 +206,5 @@ pub fn preview_of(seen: Gathered, k: u8) -> Preview
     let row = holding.row;
     let scope = c.scope;
     let sent = copies(scope, links, n, station);
-    shown(label, row, 0, c.answer, serial, left, sent)
+    shown(label, row, 0, c.answer, limit, serial, left, sent)
 }

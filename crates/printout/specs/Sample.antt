@@ -4,17 +4,18 @@ use Prim.Native.Char.{code}
 use Prim.Native.String.{String, [] as none, _∷_ as _before_}
 use mathlib.Core.Path.{_≡_, refl, ap, _∙_}
 use mathlib.Core.List.{List, [], _∷_, _++_, flatMap}
+use lib.Dec.{ltb}
 use Rattle.base.specs.Lists.{allBelow}
-use Rattle.base.specs.Results.{accepted, refuse_when_otherwise_, _andThen_}
+use Rattle.base.specs.Results.{Result, accepted, refuse_when_otherwise_, _andThen_}
 use Rattle.codec.specs.Bytes.{number}
-use Rattle.model.specs.Memory.{fresh, sizeInRange}
-use Rattle.model.specs.Calls.{notOpening}
+use Rattle.model.specs.Memory.{fresh, airLimit, sizeInRange}
+use Rattle.model.specs.Calls.{notOpening, notLimit}
 use Rattle.model.specs.Events.{eventLimit, usesOne, notEvent, allEvents}
 use Rattle.model.specs.Printout.{Line, LabelLine, routeLines}
 use Rattle.model.specs.Sample.{kinds, operands, lines, routes, prints}
-use Rattle.script.specs.Script.{script, eventCount, decoded, notSized, noRoom, parsing, reading}
+use Rattle.script.specs.Script.{Script, script, eventCount, decoded, notSized, noRoom, parsing, reading}
 use Rattle.printout.specs.Text.{digitsOf, decimal, field, ended, eventText, labelText, rehearsalText}
-use Rattle.printout.specs.Printed.{textOf, printed}
+use Rattle.printout.specs.Printed.{rehearsalOf, printoutRoom, rehearsing, textOf, programs, printed}
 
 -- The ASCII codes of a text.
 unfoldable pub codes : String → List ℕ
@@ -47,8 +48,8 @@ unfolding reading parsing _andThen_ refuse_when_otherwise_ eventCount decoded no
 reads = refl
 
 pub prints-text : printed example ≡ flatMap (λ line. ended (codes line)) text
-unfolding printed textOf rehearsalText flatMap digitsOf decimal field eventText labelText lines routes codes text
+unfolding printed programs rehearsing rehearsalOf textOf _andThen_ refuse_when_otherwise_ notLimit rehearsalText flatMap digitsOf decimal field eventText labelText lines routes codes text
 prints-text =
-    ap textOf reads
-    ∙ ap (λ (l : List Line). flatMap eventText l ++ flatMap labelText (routeLines (fresh 3 1) kinds operands)) (prints .0)
+    ap (λ (z : Result Script). textOf (z andThen λ s. refuse 14 when notLimit airLimit otherwise refuse 12 when ltb printoutRoom printoutRoom otherwise accepted (rehearsalOf airLimit s))) reads
+    ∙ ap (λ (l : List Line). flatMap eventText l ++ flatMap labelText (routeLines (fresh 3 1 128) kinds operands)) (prints .0)
     ∙ ap (λ (l : List LabelLine). flatMap eventText lines ++ flatMap labelText l) (prints .1)

@@ -3,7 +3,7 @@ use Prim.Native.Nat.{ℕ, zero, suc, _+_, _/_, _%_}
 use mathlib.Core.List.{List, [], _∷_, _++_, flatMap}
 use lib.Dec.{ltb}
 use Rattle.base.specs.Choice.{if_then_else_}
-use Rattle.model.specs.Memory.{fresh}
+use Rattle.model.specs.Memory.{Network}
 use Rattle.model.specs.Printout.{Line, LabelLine, eventLines, routeLines}
 
 -- "Fields are decimal": the digits of n in ASCII, where it has at most so many.
@@ -37,6 +37,5 @@ labelText l =
     ended (76 ∷ flatMap field (l .station ∷ l .destination ∷ l .label .s .0 ∷ l .label .m ∷ l .label .d ∷ l .successors))
 
 -- "Otherwise per event: ..; then `L` ..".
-unfoldable pub rehearsalText : (n start : ℕ) (kinds operands : List ℕ) → List ℕ
-rehearsalText n start kinds operands =
-    flatMap eventText (eventLines (fresh n start) kinds operands) ++ flatMap labelText (routeLines (fresh n start) kinds operands)
+unfoldable pub rehearsalText : Network → (kinds operands : List ℕ) → List ℕ
+rehearsalText net kinds operands = flatMap eventText (eventLines net kinds operands) ++ flatMap labelText (routeLines net kinds operands)

@@ -2,27 +2,34 @@
 ghost use mathlib.Core.Path.{_≡_};
 ghost use mathlib.Core.Bool.{false};
 ghost use Prim.Native.Nat.{ℕ, _+_, _*_, _≤_, min};
-ghost use mathlib.Core.List.{List, flatMap};
+ghost use mathlib.Core.List.{List, [], flatMap};
 ghost use lib.ListN.{length, take};
 ghost use Rattle.io.specs.Counts.{Counts};
-ghost use Rattle.model.specs.Memory.{Network};
-ghost use Rattle.model.specs.Calls.{notOpening};
+ghost use Rattle.model.specs.Memory.{Network, fresh, airLimit};
+ghost use Rattle.model.specs.Calls.{notOpening, notLimit};
 ghost use Rattle.model.specs.Events.{eventLimit};
-ghost use Rattle.model.specs.Printout.{eventLines};
+ghost use Rattle.model.specs.Printout.{lineAt, eventLines};
+ghost use Rattle.model.specs.Tally.{tallyOf};
+ghost use Rattle.telling.specs.Tallies.{tallyIn, Told};
 ghost use Rattle.printout.specs.Text.{eventText, rehearsalText};
-ghost use Rattle.printout.specs.Printed.{Prints, RoutesLoopFree};
-ghost use Rattle.printout.specs.Contracts.{PutsAt, Told};
+ghost use Rattle.printout.specs.Printed.{printoutRoom, rehearsed, Rehearses, Prints, RoutesLoopFree, TallyFits};
+ghost use Rattle.printout.specs.Contracts.{PutsAt};
 use crate::lines::put_event_line;
 use crate::lines::put_label_lines;
 use crate::lines::put_refusal;
 use network::opening::fresh;
 use script::read;
-use steps::lines::air_of;
-use steps::lines::answer_of;
-use steps::lines::hops_of;
-use steps::lines::sent_of;
 use steps::running::run;
+use telling::lines::air_of;
+use telling::lines::answer_of;
+use telling::lines::hops_of;
+use telling::lines::sent_of;
+use telling::tally::Tally;
+use telling::tally::no_events;
+use telling::tally::tally_of;
+use validation::AIR_LIMIT;
 use validation::EVENT_LIMIT;
+use validation::limit_refused;
 
 // Room for every script, and one byte more: a longer one is turned down, whatever its other bytes.
 pub const INPUT_ROOM: usize = 12 + 3 * EVENT_LIMIT;
@@ -34,7 +41,7 @@ pub const ROOM: usize = 184320;
 fn put_event_lines(out: &mut [u8], kinds: &[u8], operands: &[u8], lines: &[u64]) -> usize
     requires { ⌜ (length (now kinds) ≤ eventLimit) × (length (now operands) ≡ 2 * length (now kinds)) × (length (now kinds) ≤ length (now lines)) ⌝ }
     requires { ⌜ 40 * length (now kinds) + 200 ≤ length (now out) ⌝ }
-    ensures { λ r. ⌜ ((net : Network) → Told net (now (kinds .entry)) (now (operands .entry)) (now (lines .entry))
+    ensures { λ r. ⌜ ((net : Network) → Told (now (lines .entry)) (length (now (kinds .entry))) (lineAt net (now (kinds .entry)) (now (operands .entry)))
         → PutsAt (now (out .entry)) 0 (flatMap eventText (eventLines net (now (kinds .entry)) (now (operands .entry)))) r (now (out .exit))) ⌝ }
     ensures { λ r. ⌜ r ≤ 40 * length (now (kinds .entry)) ⌝ }
 {
@@ -55,33 +62,72 @@ fn put_event_lines(out: &mut [u8], kinds: &[u8], operands: &[u8], lines: &[u64])
     end
 }
 
-// The lines of these events and of the labels after them.
-fn put_rehearsal(out: &mut [u8], n: u8, start: u64, kinds: &[u8], operands: &[u8]) -> usize
-    requires { ⌜ (notOpening n start ≡ false) × (length (now kinds) ≤ eventLimit) × (length (now operands) ≡ 2 * length (now kinds)) ⌝ }
-    requires { ⌜ 184_320 ≤ length (now out) ⌝ }
-    ensures { λ r. ⌜ PutsAt (now (out .entry)) 0 (rehearsalText n start (now (kinds .entry)) (now (operands .entry))) r (now (out .exit)) ⌝ }
-    ensures { λ r. ⌜ r ≤ 184_320 ⌝ }
-{
-    let mut lines = [0u64; EVENT_LIMIT];
-    let memory = fresh(n, start);
-    let ran = run(memory, false, kinds, operands, &mut lines);
-    let end = put_event_lines(out, kinds, operands, &lines);
-    put_label_lines(out, end, ran.memory)
+// What a rehearsal gives: the length of its text, its answer, and the tally of its events.
+pub struct Rehearsed {
+    pub length: usize,
+    pub answer: u32,
+    pub tally: Tally,
 }
 
-// What a script prints, at the start of the lent array, whose places past it are kept; the result is its length. No walk along the
-// routes printed goes in a circle.
-pub fn rehearse(script: &[u8], out: &mut [u8; ROOM]) -> usize
-    ensures text { λ r. ⌜ Prints (now (script .entry)) (now (out .entry)) r (now (out .exit)) ⌝ }
-    ensures length { λ r. ⌜ Counts r (now (out .exit)) ⌝ }
-    ensures loop_free { λ _. ⌜ RoutesLoopFree (now (script .entry)) ⌝ }
+// A rehearsal that is turned down.
+fn turned_down(number: u32) -> Rehearsed
+    ensures { λ r. ⌜ r ≡ rehearsed 0 number (tallyOf []) ⌝ }
+{
+    Rehearsed {
+        length: 0,
+        answer: number,
+        tally: no_events(),
+    }
+}
+
+// The lines of these events and of the labels after them, under an air limit.
+fn put_rehearsal(
+    out: &mut [u8],
+    n: u8,
+    start: u64,
+    limit: u8,
+    kinds: &[u8],
+    operands: &[u8],
+) -> Rehearsed
+    requires { ⌜ (notOpening n start ≡ false) × (notLimit limit ≡ false) × (length (now kinds) ≤ eventLimit) × (length (now operands) ≡ 2 * length (now kinds)) ⌝ }
+    requires { ⌜ printoutRoom ≤ length (now out) ⌝ }
+    ensures { λ r. ⌜ PutsAt (now (out .entry)) 0 (rehearsalText (fresh n start limit) (now (kinds .entry)) (now (operands .entry))) (r .length) (now (out .exit)) ⌝ }
+    ensures { λ r. ⌜ (r .answer ≡ 0) × (tallyIn (r .tally) ≡ tallyOf (eventLines (fresh n start limit) (now (kinds .entry)) (now (operands .entry)))) ⌝ }
+    ensures { λ r. ⌜ (r .length ≤ printoutRoom) × (r .tally .calls ≤ eventLimit) ⌝ }
+{
+    let mut lines = [0u64; EVENT_LIMIT];
+    let memory = fresh(n, start, limit);
+    let ran = run(memory, false, kinds, operands, &mut lines);
+    let tally = tally_of(&lines, kinds.len());
+    let end = put_event_lines(out, kinds, operands, &lines);
+    let length = put_label_lines(out, end, ran.memory);
+    Rehearsed {
+        length: length,
+        answer: 0,
+        tally: tally,
+    }
+}
+
+// A script rehearsed under an air limit: its text goes to the start of the lent array, whose places past it are kept. No walk along the routes
+// printed goes in a circle.
+pub fn rehearse_under(script: &[u8], limit: usize, out: &mut [u8]) -> Rehearsed
+    ensures text { λ r. ⌜ Rehearses (now (script .entry)) limit (now (out .entry)) r (now (out .exit)) ⌝ }
+    ensures loop_free { λ _. ⌜ RoutesLoopFree (now (script .entry)) limit ⌝ }
+    ensures tally { λ _. ⌜ TallyFits (now (script .entry)) limit ⌝ }
+    ensures bounded { λ r. ⌜ (r .length ≤ printoutRoom) × (r .tally .calls ≤ eventLimit) ⌝ }
 {
     let mut kinds = [0u8; EVENT_LIMIT];
     let mut operands = [0u8; 2 * EVENT_LIMIT];
     let found = read(script, &mut kinds, &mut operands);
     let answer = found.answer;
     if answer != 0 {
-        return put_refusal(out, answer);
+        return turned_down(answer);
+    }
+    if limit_refused(limit) {
+        return turned_down(14);
+    }
+    if out.len() < ROOM {
+        return turned_down(12);
     }
     let events = found.events;
     let pairs = 2 * events;
@@ -89,9 +135,32 @@ pub fn rehearse(script: &[u8], out: &mut [u8; ROOM]) -> usize
         out,
         found.n,
         found.start,
+        limit as u8,
         &kinds[..events],
         &operands[..pairs],
     )
+}
+
+// What a script prints, at the start of the lent array, whose places past it are kept; the result has its length and the tally. No walk along
+// the routes printed goes in a circle.
+pub fn rehearse(script: &[u8], out: &mut [u8; ROOM]) -> Rehearsed
+    ensures text { λ r. ⌜ Prints (now (script .entry)) (now (out .entry)) r (now (out .exit)) ⌝ }
+    ensures length { λ r. ⌜ Counts (r .length) (now (out .exit)) ⌝ }
+    ensures loop_free { λ _. ⌜ RoutesLoopFree (now (script .entry)) airLimit ⌝ }
+    ensures tally { λ _. ⌜ TallyFits (now (script .entry)) airLimit ⌝ }
+{
+    let done = rehearse_under(script, AIR_LIMIT as usize, out);
+    let answer = done.answer;
+    if answer == 0 {
+        return done;
+    }
+    let tally = done.tally;
+    let length = put_refusal(out, answer);
+    Rehearsed {
+        length: length,
+        answer: answer,
+        tally: tally,
+    }
 }
 
 // The smaller of two numbers.
@@ -105,11 +174,12 @@ fn least(a: usize, b: usize) -> usize
 }
 
 // What a whole input prints, from as many of its first bytes as the array holds: `count` of them stand there.
-pub fn rehearse_input(input: &[u8; INPUT_ROOM], count: usize, out: &mut [u8; ROOM]) -> usize
+pub fn rehearse_input(input: &[u8; INPUT_ROOM], count: usize, out: &mut [u8; ROOM]) -> Rehearsed
     ensures text { λ r. ⌜ ((whole : List ℕ) → take count (now (input .entry)) ≡ take (length (now (input .entry))) whole
         → Prints whole (now (out .entry)) r (now (out .exit))) ⌝ }
-    ensures length { λ r. ⌜ Counts r (now (out .exit)) ⌝ }
-    ensures loop_free { λ _. ⌜ ((whole : List ℕ) → RoutesLoopFree whole) ⌝ }
+    ensures length { λ r. ⌜ Counts (r .length) (now (out .exit)) ⌝ }
+    ensures loop_free { λ _. ⌜ ((whole : List ℕ) → RoutesLoopFree whole airLimit) ⌝ }
+    ensures tally { λ _. ⌜ ((whole : List ℕ) → TallyFits whole airLimit) ⌝ }
 {
     let bytes: &[u8] = input;
     let end = least(count, bytes.len());

@@ -11,7 +11,8 @@ fn main() {
     let mut input = [0u8; INPUT_ROOM];
     let count = io::read_full(STDIN_FILENO, &mut input);
     let mut out = [0u8; ROOM];
-    let end = rehearse_input(&input, count, &mut out);
+    let done = rehearse_input(&input, count, &mut out);
+    let end = done.length;
     if !io::write_all(STDOUT_FILENO, &out[..end]) {
         io::write_all(
             STDERR_FILENO,

@@ -1,15 +1,18 @@
 -- Memory that the sandbox's calls made reads as what the model's calls leave, so demand 3 speaks of it.
 use Prim.Native.Nat.{ℕ}
 use mathlib.Core.Path.{_≡_, refl, sym, ap, subst, _∙_}
+use mathlib.Core.Logic.{_≢_, _⊎_, inl, inr}
 use mathlib.Core.Bool.{Bool, true, false}
 use mathlib.Core.List.{List, [], _∷_}
-use native.Mathlib.Omega.{arith}
+use Rattle.base.specs.Results.{Result, refused, accepted}
 use Rattle.model.specs.Memory.{Network, fresh, memoryInRange}
-use Rattle.model.specs.Calls.{Call, Effect, after, notOpening, step, run, Traced, trace}
+use Rattle.model.specs.Calls.{Call, Open, Effect, after, notOpening, notLimit, step, run, Traced, trace}
+use Rattle.model.specs.Events.{eventsOf, callsIn, running}
 use Rattle.model.specs.Walks.{Reached}
-use Rattle.model.proofs.Refusals.{open-1, open-accepted}
+use Rattle.model.proofs.Refusals.{openNumber, Opens, open-either}
+use Rattle.model.proofs.EventLaws.{running-after}
 use Rattle.model.proofs.HistoryLaws.{made-reached}
-use Rattle.draining.specs.Draining.{callsOf, Action, call, drain, opens}
+use Rattle.draining.specs.Draining.{callsOf, Action, call, drain, events, opens}
 use Rattle.network.specs.declared.Memory.{Memory}
 use Rattle.network.specs.View.{view}
 use Rattle.steps.specs.declared.Done.{Done}
@@ -25,16 +28,18 @@ abbrev Holds : Memory → Network → Type 0
 Holds memory net = view memory ≡ net
 
 -- An Open that answers 0 was accepted, and gives fresh memory.
-opened : (n start : ℕ) (memory left : Memory) → LeavesMemory (opens n start) memory 0 left → (notOpening n start ≡ false) × (view left ≡ fresh n start)
+opened : (n start limit : ℕ) (memory left : Memory) → LeavesMemory (opens n start limit) memory 0 left
+    → (notOpening n start ≡ false) × (notLimit limit ≡ false) × (view left ≡ fresh n start limit)
 unfolding Called
-opened n start memory left (sent, called) = go (notOpening n start) refl
+opened n start limit memory left (sent, called) = go (open-either n start limit (view memory))
   where
-    go : (b : Bool) → notOpening n start ≡ b → (notOpening n start ≡ false) × (view left ≡ fresh n start)
-    go true e =
-        let one = ap (λ (d : Done). d .answer) (subst (λ z. Called memory z (done left 0 sent)) (open-1 n start (view memory) e) called) in
-        absurd (omega (arith, one))
-    go false e =
-        (e, ap (λ (x : Effect). x .net) (subst (λ z. Called memory z (done left 0 sent)) (open-accepted n start (view memory) e) called .0))
+    by : {z : Result Effect} → step (Open n start limit) (view memory) ≡ z → Called memory z (done left 0 sent)
+    by e = subst (λ z. Called memory z (done left 0 sent)) e called
+
+    go : ((openNumber n start limit ≢ 0) × (step (Open n start limit) (view memory) ≡ refused (openNumber n start limit))) ⊎ Opens n start limit (view memory)
+        → (notOpening n start ≡ false) × (notLimit limit ≡ false) × (view left ≡ fresh n start limit)
+    go (inl (some, e)) = absurd (some (sym (ap (λ (d : Done). d .answer) (by e))))
+    go (inr w) = (w .right, w .within, ap (λ (x : Effect). x .net) (by (w .accepts) .0))
 
 -- What draining leaves, the calls of its turns leave.
 drain-leaves : (b : Bool) (memory : Memory) (r : Drained) → DrainEnds b memory r → (calls : List Call) × (view (r .memory) ≡ run calls (view memory))
@@ -42,11 +47,23 @@ unfolding run
 drain-leaves true memory r d = (callsOf (d .turns), d .drained .calls)
 drain-leaves false memory r e = ([], ap (λ (x : Drained). view (x .memory)) e)
 
+-- What a run of events leaves, the calls among them leave, or none.
+run-leaves : (net : Network) (kinds operands : List ℕ) (room : ℕ) → (calls : List Call) × (after net (running net kinds operands room) ≡ run calls net)
+unfolding run after
+run-leaves net kinds operands room = go (running net kinds operands room) refl
+  where
+    go : (z : Result Effect) → running net kinds operands room ≡ z → (calls : List Call) × (after net z ≡ run calls net)
+    go (refused number) e = ([], refl)
+    go (accepted e) q = (callsIn (eventsOf kinds operands), running-after net kinds operands room e q)
+
 stepped : (c : Action) (memory : Memory) (answer : ℕ) (left : Memory) (net : Network) → view memory ≡ net → LeavesMemory c memory answer left
     → (calls : List Call) × (view left ≡ run calls net)
 unfolding run
 stepped (call c) memory answer left net h (sent, called) =
     (c ∷ [], called-after memory (step c (view memory)) (done left answer sent) called ∙ ap (λ (x : Network). after x (step c x)) h)
+stepped (events kinds operands room) memory answer left net h called =
+    let (calls, e) = run-leaves (view memory) kinds operands room in
+    (calls, called-after memory (running (view memory) kinds operands room) (done left answer 0) called ∙ e ∙ ap (run calls) h)
 stepped drain memory answer left net h (deliveries, losses, d) =
     let (calls, e) = drain-leaves (memoryInRange (view memory)) memory (drained left answer deliveries losses) d in
     (calls, e ∙ ap (run calls) h)

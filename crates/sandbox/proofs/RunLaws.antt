@@ -3,7 +3,7 @@ use Prim.Native.Nat.{ℕ, _≤_, _<_}
 use mathlib.Core.Path.{_≡_, sym, ap, subst, _∙_}
 use mathlib.Core.Logic.{_≢_}
 use mathlib.Core.Bool.{true, false, not}
-use mathlib.Core.List.{List}
+use mathlib.Core.List.{List, []}
 use lib.ListN.{length}
 use lib.Seq.{sets}
 use lib.Dec.{ltb}
@@ -15,22 +15,27 @@ use Rattle.base.proofs.Loops.{tabulate-length, map-tabulate}
 use Rattle.base.proofs.Results.{refuse-holds, refuse-passes}
 use Rattle.codec.specs.Bytes.{putInto}
 use Rattle.codec.proofs.ByteLaws.{sets-over}
-use Rattle.model.specs.Memory.{Network, memoryInRange}
+use Rattle.model.specs.Memory.{Network, Sized, memoryInRange}
 use Rattle.model.specs.Calls.{effect, run, trace}
 use Rattle.model.specs.Walks.{Reached}
 use Rattle.model.specs.Events.{eventAt, callsIn, notEvents, allEvents, afterEvents, running}
 use Rattle.model.specs.Printout.{lineAt, eventLines}
+use Rattle.model.specs.Tally as model
+use Rattle.model.specs.Tally.{tallyOf, HighestFits, LimitFromHighest}
 use Rattle.model.proofs.EventLaws.{reached-more}
+use Rattle.model.proofs.Tallies.{limit-from-highest}
+use Rattle.telling.specs.declared.tally.Tally.{Tally}
+use Rattle.telling.specs.Tallies.{tallyIn}
 use Rattle.network.specs.declared.Memory.{Memory}
 use Rattle.network.specs.View.{view}
-use Rattle.steps.specs.declared.Done.{Done}
 use Rattle.steps.specs.Called.{done, Called}
 use Rattle.steps.specs.Ran as steps
 use Rattle.steps.specs.Ran.{Ran, ToldFit}
 use Rattle.steps.proofs.CallLaws.{called-refused}
 use Rattle.steps.proofs.RunLaws.{ran-in-range, ran-after}
+use Rattle.sandbox.specs.declared.events.Tallied.{Tallied}
 use Rattle.sandbox.specs.Made.{MadeMemory, WalksEndIn}
-use Rattle.sandbox.specs.Telling.{told, Tells}
+use Rattle.sandbox.specs.Telling.{told, linesOf, tallyOfRun, Tells}
 use Rattle.sandbox.proofs.MadeLaws.{made-after, reached-after}
 
 module _ (memory : Memory) (kinds operands lines : List ℕ) where
@@ -38,14 +43,24 @@ module _ (memory : Memory) (kinds operands lines : List ℕ) where
   abbrev Ends : Memory → Type 0
   Ends next = (a t : ℕ) → WalksEndIn next a t (trace (view next) a t)
 
-  abbrev pub Runs : Done → List ℕ → Type 0
+  abbrev pub Runs : Tallied → List ℕ → Type 0
   Runs r lines′ =
-      Called memory (running (view memory) kinds operands (length lines)) r
-      × (Tells (view memory) kinds operands lines lines′ × ((MadeMemory memory → Ends (r .memory)) × ((Reached (view memory) → Ends (r .memory)) × (r .answer ≡ 0 → ToldFit (view memory) kinds operands (length kinds)))))
+      Called memory (running (view memory) kinds operands (length lines)) (done (r .memory) (r .answer) 0)
+      × (Tells (view memory) kinds operands lines lines′
+      × ((tallyIn (r .tally) ≡ tallyOfRun (view memory) kinds operands (length lines))
+      × ((r .answer ≡ 0 → HighestFits (view memory) kinds operands (r .tally .highest))
+      × ((MadeMemory memory → Ends (r .memory)) × ((Reached (view memory) → Ends (r .memory)) × (r .answer ≡ 0 → ToldFit (view memory) kinds operands (length kinds)))))))
 
-  pub run-refused : (number : ℕ) → number ≢ 0 → running (view memory) kinds operands (length lines) ≡ refused number → Runs (done memory number 0) lines
-  unfolding Tells mapped putInto
-  run-refused number some e = (called-refused memory _ number e, (rw e, (made-after memory memory (λ r. r), (reached-after memory memory (λ r. r), λ z. absurd (some z)))))
+  abbrev tallied : Memory → ℕ → Tally → Tallied
+  tallied next answer t = record { memory = next; answer = answer; tally = t }
+
+  pub run-refused : (number : ℕ) → number ≢ 0 → running (view memory) kinds operands (length lines) ≡ refused number
+      → (t : Tally) → tallyIn t ≡ tallyOf [] → Runs (tallied memory number t) lines
+  unfolding Tells tallyOfRun linesOf mapped putInto
+  run-refused number some e t none = (
+    called-refused memory _ number e,
+    (rw e, (rw e none, ((λ z. absurd (some z)), (made-after memory memory (λ r. r), (reached-after memory memory (λ r. r), λ z. absurd (some z)))))),
+  )
 
   -- Past the first three tests.
   module _ (listed : notEvents (length kinds) (length operands) ≡ false) (ranged : memoryInRange (view memory) ≡ true) (right : allEvents kinds operands ≡ true) where
@@ -54,7 +69,7 @@ module _ (memory : Memory) (kinds operands lines : List ℕ) where
     unfolding running
     tested = refuse-passes 10 _ _ listed ∙ refuse-passes 1 _ _ (ap not ranged) ∙ refuse-passes 11 _ _ (ap not right)
 
-    pub run-no-room : length lines < length kinds → Runs (done memory 12 0) lines
+    pub run-no-room : length lines < length kinds → (t : Tally) → tallyIn t ≡ tallyOf [] → Runs (tallied memory 12 t) lines
     run-no-room h = run-refused 12 (λ z. omega arith) (tested ∙ refuse-holds 12 _ _ (lt-ltb (length lines) (length kinds) h))
 
     module _ (next : Memory) (lines′ : List ℕ) (ran : Ran memory kinds operands (length kinds) next) where
@@ -65,16 +80,24 @@ module _ (memory : Memory) (kinds operands lines : List ℕ) where
       unfolding afterEvents
       reached r = subst Reached (sym left) (reached-more (view memory) (callsIn (tabulate (length kinds) (eventAt kinds operands))) r)
 
-      pub run-accepted : length kinds ≤ length lines → lines′ ≡ sets lines 0 (tabulate (length kinds) (steps.told (view memory) kinds operands)) → ToldFit (view memory) kinds operands (length kinds)
-          → Runs (done next 0 0) lines′
-      unfolding Called Tells mapped putInto eventLines steps.told
-      run-accepted h told-are fit =
-          let e = tested ∙ refuse-passes 12 _ _ (le-ltb (length lines) (length kinds) h) in (
+      pub run-accepted : Sized (view memory) → length kinds ≤ length lines → lines′ ≡ sets lines 0 (tabulate (length kinds) (steps.told (view memory) kinds operands))
+          → ToldFit (view memory) kinds operands (length kinds)
+          → (t : Tally) → tallyIn t ≡ tallyOf (tabulate (length kinds) (lineAt (view memory) kinds operands)) → Runs (tallied next 0 t) lines′
+      unfolding Called Tells tallyOfRun linesOf mapped putInto eventLines steps.told LimitFromHighest
+      run-accepted sized h told-are fit t counted =
+          let e = tested ∙ refuse-passes 12 _ _ (le-ltb (length lines) (length kinds) h) in
+          let fits = limit-from-highest (view memory) sized ranged kinds operands in (
             subst (λ z. Called memory z (done next 0 0)) (sym e)
                 (ap (λ (net : Network). effect 0 0 net) left, ran-in-range memory kinds operands (length kinds) next ran ranged),
             (
               rw (e, map-tabulate told (length kinds) (lineAt (view memory) kinds operands))
                   (told-are ∙ sets-over lines _ (omega (arith, tabulate-length (length kinds) (steps.told (view memory) kinds operands)))),
-              (made-after memory next reached, (reached-after memory next reached, λ z. fit)),
+              (
+                rw e counted,
+                (
+                  (λ z. subst (λ k. HighestFits (view memory) kinds operands k) (sym (ap (λ (x : model.Tally). x .highest) counted)) fits),
+                  (made-after memory next reached, (reached-after memory next reached, λ z. fit)),
+                ),
+              ),
             ),
           )

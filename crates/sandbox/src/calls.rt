@@ -26,7 +26,7 @@ use steps::Traced;
 use steps::drain::drain_in_range;
 use steps::single::event_in_range;
 use validation::narrow;
-use validation::open_refused;
+use validation::open_refusal;
 
 // The call of a kind, 1 to 8. An operand that it does not use is 0.
 pub fn call(memory: Memory, kind: u8, a: usize, b: usize) -> Done
@@ -48,19 +48,20 @@ pub fn call(memory: Memory, kind: u8, a: usize, b: usize) -> Done
     }
 }
 
-// Open: fresh memory of n stations. The memory handed in is not read; it is given back where the call is turned down.
-pub fn open(memory: Memory, n: usize, start: u64) -> Done
-    ensures { λ r. ⌜ Called memory (step (Open n start) (view memory)) r ⌝ }
+// Open: fresh memory of n stations, with an air limit. The memory handed in is not read; it is given back where the call is turned down.
+pub fn open(memory: Memory, n: usize, start: u64, limit: usize) -> Done
+    ensures { λ r. ⌜ Called memory (step (Open n start limit) (view memory)) r ⌝ }
 {
-    if open_refused(n, start) {
+    let number = open_refusal(n, start, limit);
+    if number != 0 {
         return Done {
             memory: memory,
-            answer: 1,
+            answer: number,
             sent: 0,
         };
     }
     Done {
-        memory: fresh(n as u8, start),
+        memory: fresh(n as u8, start, limit as u8),
         answer: 0,
         sent: 0,
     }
@@ -119,7 +120,7 @@ pub fn preview(memory: Memory, k: usize) -> Preview
     preview_of(gather(memory, a), a)
 }
 
-// Draining the air: packet 0 is delivered again and again, and lost where Deliver gives 7, until no packet is in the air. No walk goes in a circle
+// Draining the air: packet 0 is delivered again and again, and lost where Deliver gives 13 or 7, until no packet is in the air. No walk goes in a circle
 // in what it leaves of memory that the calls made.
 pub fn drain(memory: Memory) -> Drained
     ensures drained { λ r. ⌜ DrainEnds (memoryInRange (view memory)) memory r ⌝ }

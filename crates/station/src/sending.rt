@@ -9,13 +9,13 @@ ghost use Rattle.model.specs.Calls.{nextSerial, errors};
 ghost use Rattle.network.specs.declared.Packet.{Packet};
 ghost use Rattle.network.specs.View.{bodyOf, packetsOf};
 ghost use Rattle.station.specs.Reacting.{sentBy};
-use network::AIR_LIMIT;
 use network::Packet;
 use network::links::neighbour_count;
 use network::packets::append;
 use network::packets::broadcast;
 use network::packets::remove;
 use network::packets::replace;
+use validation::AIR_LIMIT;
 
 // How many packets that is.
 pub fn copies(scope: u8, links: [bool; 256], n: u8, a: u8) -> u8

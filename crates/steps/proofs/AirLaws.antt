@@ -13,7 +13,7 @@ use Rattle.base.specs.Numbers.{maxU64}
 use Rattle.base.proofs.Lists.{map-set}
 use Rattle.label.specs.declared.Label.{Label}
 use Rattle.model.specs.Memory as model
-use Rattle.model.specs.Memory.{Network, place, request, setNumbers, setSoughts, setActives, setAir, setSerials, airLimit}
+use Rattle.model.specs.Memory.{Network, place, request, setNumbers, setSoughts, setActives, setAir, setSerials}
 use Rattle.model.specs.Calls.{Solicit, Lose, Duplicate, Effect, effect, usedUp, limited, notPacket, append, countOn, send, sending, copies, solicit, removePacket}
 use Rattle.model.specs.Events.{calls, eventOf}
 use Rattle.model.proofs.Refusals.{pair-tells, packet-tells, solicit-limited, lose-accepted, duplicate-limited, limited-accepted}
@@ -72,6 +72,7 @@ module _ {memory : Memory} {packets : List Packet} {count kind a b r : ℕ} (h :
       steps = solicit-limited (view m) (h .ranged) a b (is .1 .0) (is .1 .1) (is .1 .2) ∙ ap (limited (view m)) does-solicit;
       used-is = rw (below .3) (used-one (view m) soliciting (serials-long h) a (length sent) (pair-tells (view m) a b (is .1 .0) .0) refl);
       total-is = sending-length 0 a sent seeking ∙ ap (λ x. x + length sent) (packets-count packets count);
+      limit-is = refl;
     }
 
     pub solicit-done : (packets′ : List Packet) → packetsOf packets′ (count + length sent) ≡ packetsOf packets count ++ sent
@@ -88,6 +89,7 @@ module _ {memory : Memory} {packets : List Packet} {count kind a b r : ℕ} (h :
           links = memory .links;
           n = memory .n;
           serials = set (memory .serials) (a % 16) (countOn (getD (memory .serials) (a % 16) 0) (length sent));
+          limit = memory .limit;
         })) ≡ soliciting
     unfolding setActives setSoughts setNumbers view sending send append setAir setSerials
     solicit-done packets′ q = rw (q, below .3, below .4, map-set (λ (k : RequestNumber). k .0) (memory .numbers))
@@ -125,10 +127,11 @@ module _ {memory : Memory} {packets : List Packet} {count kind a b r : ℕ} (h :
       is = loses .0;
       steps =
           lose-accepted (view m) (h .ranged) a (loses .1)
-          ∙ sym (limited-accepted (view m) losing (used-none (view m) losing (serials-long h) (omega (arith, ranged .low)) refl) lost-length
-          (sym (rw (le-ltb airLimit (count - 1) (omega (arith, ranged .air-count))))) refl);
+          ∙ sym (limited-accepted (view m) losing (used-none (view m) losing (serials-long h) (omega (arith, ranged .low)) refl) lost-length refl
+          (sym (rw (le-ltb (memory .limit) (count - 1) (omega (arith, ranged .within-limit))))) refl);
       used-is = silent losing last refl;
       total-is = lost-length;
+      limit-is = refl;
     }
 
     pub lose-done : (packets′ : List Packet) → packetsOf packets′ (count - 1) ≡ removeAt (a % 128) (packetsOf packets count)
@@ -156,6 +159,7 @@ module _ {memory : Memory} {packets : List Packet} {count kind a b r : ℕ} (h :
       steps = duplicate-limited (view m) (h .ranged) a (doubles .1);
       used-is = silent doubled last refl;
       total-is = length-append (packetsOf packets count) _ ∙ ap (λ x. x + 1) (packets-count packets count);
+      limit-is = refl;
     }
 
     pub duplicate-done : (packets′ : List Packet) → packetsOf packets′ (count + 1) ≡ packetsOf packets count ++ (packetOf (getD packets (a % 128) zeroPacket) ∷ [])

@@ -13,7 +13,7 @@ use Rattle.base.specs.Choice.{if_then_else_}
 use Rattle.base.specs.Results.{accepted}
 use Rattle.base.proofs.Lists.{map-set}
 use Rattle.base.specs.Lists.{tabulate}
-use Rattle.model.specs.Memory.{pairPlace, place, airLimit, memoryInRange, setLinks, setActives, setRows}
+use Rattle.model.specs.Memory.{pairPlace, place, memoryInRange, setLinks, setActives, setRows}
 use Rattle.model.specs.Calls.{Call, Up, GiveUp, Expire, Effect, effect, usedUp, limited, notPair, step, hopLimit, follow}
 use Rattle.model.specs.Events.{notEvent, callOf, Event, calls, traces, noEvent, eventOf}
 use Rattle.model.proofs.Refusals.{station-tells, pair-tells, up-accepted, give-up-accepted, expire-accepted, limited-refused, limited-accepted}
@@ -82,14 +82,15 @@ class-cut {kind} {carried} = go (eqb kind 1 || eqb kind 4 || eqb kind 5) (eqb ki
     go false false false p true q false r e = absurd (omega arith)
     go false false false p false q v r e = absurd (omega arith)
 
--- An event is a call that 13 and 7 are left to turn down: its effect, whether a station has used up its serial numbers, and the packets in the air
--- after it.
+-- An event is a call that 13 and 7 are left to turn down: its effect, whether a station has used up its serial numbers, the packets in the air
+-- after it, and that it keeps the limit.
 pub record Does (m : Memory) (event : Event) (used : Bool) (total : ℕ) (e : Effect) : Type 0 where
   pub call : Call
   pub is : event ≡ calls call
   pub steps : step call (view m) ≡ limited (view m) e
   pub used-is : usedUp (view m) e ≡ used
   pub total-is : length (e .net .air) ≡ total
+  pub limit-is : e .net .limit ≡ m .limit
 
 -- What is gathered where an event looks.
 pub seen : (memory : Memory) (packets : List Packet) (count : ℕ) {kind a b : ℕ} (w : Spot) {pair : ℕ} → memoryInRange (view (airing memory packets count)) ≡ true → memory .n ≤ 16
@@ -163,15 +164,15 @@ module _ {memory : Memory} {packets : List Packet} {count kind a b r : ℕ} (h :
           (called-accepted m c (done next answer sent) e (shape-sized count (h .shape)) s same)
 
     -- A call that 13 and 7 are left to turn down, by what the code counted.
-    module _ {used : Bool} {total : ℕ} {e : Effect} (d : Does m (eventOf kind a b) used total e) {stop : ℕ} (s : stop ≡ (if used then 13 else if ltb airLimit total then 7 else 0)) where
+    module _ {used : Bool} {total : ℕ} {e : Effect} (d : Does m (eventOf kind a b) used total e) {stop : ℕ} (s : stop ≡ (if used then 13 else if ltb (memory .limit) total then 7 else 0)) where
       pub happens-stopped : stop ≢ 0 → Happens m (eventOf kind a b) (happened m stop 0 0)
       happens-stopped h =
           happens-call m (eventOf kind a b) (d .call) (done m stop 0) (d .is)
-          (called-refused m (step (d .call) (view m)) stop (d .steps ∙ limited-refused (view m) e (d .used-is) (d .total-is) s h))
+          (called-refused m (step (d .call) (view m)) stop (d .steps ∙ limited-refused (view m) e (d .used-is) (d .total-is) (d .limit-is) s h))
 
       pub happens-done : stop ≡ 0 → (next : Memory) (answer sent : ℕ) → effect answer sent (view next) ≡ e → Happens m (eventOf kind a b) (happened next answer sent 0)
       happens-done h next answer sent same =
-          happens-accepted (d .call) (d .is) next answer sent e (d .steps ∙ limited-accepted (view m) e (d .used-is) (d .total-is) s h) same
+          happens-accepted (d .call) (d .is) next answer sent e (d .steps ∙ limited-accepted (view m) e (d .used-is) (d .total-is) (d .limit-is) s h) same
 
     -- Two stations stand at their own places.
     pub both-below : notPair (view m) a b ≡ false → (a < 16) × (b < 16) × (a ≢ b) × (a % 16 ≡ a) × (b % 16 ≡ b)
@@ -198,6 +199,7 @@ module _ {memory : Memory} {packets : List Packet} {count kind a b r : ℕ} (h :
         links = set (memory .links) pair (getD (memory .links) pair false || eqb kind 1);
         n = memory .n;
         serials = memory .serials;
+        limit = memory .limit;
       }
 
       pub light-shape : {air : Air} → Shape (light air) packets

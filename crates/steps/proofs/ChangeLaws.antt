@@ -165,6 +165,7 @@ module _ {memory : Memory} {packets : List Packet} {count kind a b r : ℕ} {w :
       links = memory .links;
       n = memory .n;
       serials = set (memory .serials) (w .station) next;
+      limit = memory .limit;
     }
 
     pub changed-shape : (next : ℕ) {air : Air} {packets′ : List Packet} → length packets′ ≡ airLimit → Shape (changed next air) packets′
@@ -338,15 +339,15 @@ module _ {memory : Memory} {packets : List Packet} {count kind a b r : ℕ} {w :
     -- With the numbers that the code counted.
     module _ {stay number counted stop : ℕ} (x : stay ≡ (if c .drops then count - 1 else count))
         (y : (q : Packet) → number ≡ length (sentBy (c .scope) (memory .links) (memory .n) (w .station) q)) (z : counted ≡ (if eqb kind 8 then 0 else number))
-        (s : stop ≡ sendingRefusal airLimit (stay + number) serial counted 0 0) where
+        (s : stop ≡ sendingRefusal (memory .limit) (stay + number) serial counted 0 0) where
       staying : stay ≡ length stays
       staying = x ∙ sym stays-length
 
       told-is : counted ≡ told
       told-is = z ∙ ap (λ (k : ℕ). if eqb kind 8 then 0 else k) (y outgoing)
 
-      stops : stop ≡ (if leb maxU64 serial && ltb 0 told then 13 else if ltb airLimit (length stays + length sent) then 7 else 0)
-      stops = rw (told-is, staying, y outgoing) at (first-alone airLimit (stay + number) serial counted 0 0 s refl)
+      stops : stop ≡ (if leb maxU64 serial && ltb 0 told then 13 else if ltb (memory .limit) (length stays + length sent) then 7 else 0)
+      stops = rw (told-is, staying, y outgoing) at (first-alone (memory .limit) (stay + number) serial counted 0 0 s refl)
 
       pub change-stopped : stop ≢ 0 → Happens m (eventOf kind a b) (happened m stop 0 0)
       change-stopped h = happens-stopped (g .tested) (g .zero-is) (ending .left) stops h

@@ -79,17 +79,18 @@ module _ {memory : Memory} {packets : List Packet} {count kind a b r : ℕ} (h :
       ∙ ap (limited (view m)) (rw (packets-at packets count a model.zeroPacket (arrives .0), arrives .1))
 
   -- Its receiver sends these packets, in a network that has the memory's serial numbers and the other packets.
-  deliver-does : (answer : ℕ) (sent : List model.Packet) (net : model.Network) → net .serials ≡ memory .serials → net .air ≡ rest
+  deliver-does : (answer : ℕ) (sent : List model.Packet) (net : model.Network) → net .serials ≡ memory .serials → net .air ≡ rest → net .limit ≡ memory .limit
       → step (Deliver a) (view m) ≡ limited (view m) (sending answer (p .receiver) sent net)
       → Does m (eventOf kind a b) (leb maxU64 (getD (memory .serials) (p .receiver) 0) && ltb 0 (length sent)) (count - 1 + length sent) (sending answer (p .receiver) sent net)
   unfolding sending send append setAir setSerials view
-  deliver-does answer sent net serials air s = record {
+  deliver-does answer sent net serials air limit s = record {
     call = Deliver a;
     is = delivers .0;
     steps = s;
     used-is = used-one (view m) (sending answer (p .receiver) sent net) (serials-long h) (p .receiver) (length sent) (carried .receiver-below)
         (ap (λ (l : List ℕ). set l (p .receiver) (countOn (getD l (p .receiver) 0) (length sent))) serials);
     total-is = sending-length answer (p .receiver) sent net ∙ ap (λ (l : List model.Packet). length l + length sent) air ∙ ap (λ x. x + length sent) rest-length;
+    limit-is = limit;
   }
 
   -- An error, and what its receiver's rows lose.
@@ -128,7 +129,7 @@ module _ {memory : Memory} {packets : List Packet} {count kind a b r : ℕ} (h :
 
     pub error-does : Does m (eventOf kind a b) (leb maxU64 (getD (memory .serials) (p .receiver) 0) && ltb 0 (length told-on)) (count - 1 + length told-on) telling
     unfolding view setAir setRows
-    error-does = deliver-does (errorOutcome (losses .removed) (losses .emptied)) told-on after-error refl refl error-steps
+    error-does = deliver-does (errorOutcome (losses .removed) (losses .emptied)) told-on after-error refl refl refl error-steps
 
   -- A request or a reply, and what its receiver holds.
   module _ (q : p .kind ≢ 3) (cell slot : ℕ) (l : Label) (cell-is : cell ≡ place (p .receiver) (p .destination)) (slot-is : slot ≡ place (p .receiver) (p .source))
@@ -195,7 +196,7 @@ module _ {memory : Memory} {packets : List Packet} {count kind a b r : ℕ} (h :
 
       pub reaction-does : Does m (eventOf kind a b) (leb maxU64 (getD (memory .serials) (p .receiver) 0) && ltb 0 (length sent)) (count - 1 + length sent) reacting
       unfolding holding view setAir setLabels setRows setRecords setActives
-      reaction-does = deliver-does (f .answer) sent (holding p (f .holding) flying) refl refl reaction-steps
+      reaction-does = deliver-does (f .answer) sent (holding p (f .holding) flying) refl refl refl reaction-steps
 
       pub reaction-done : (packets′ : List Packet) → packetsOf packets′ (count - 1 + length sent) ≡ rest ++ sent
           → effect (f .answer) (length sent) (view (record {
@@ -211,6 +212,7 @@ module _ {memory : Memory} {packets : List Packet} {count kind a b r : ℕ} (h :
             links = memory .links;
             n = memory .n;
             serials = set (memory .serials) (p .receiver) (countOn (getD (memory .serials) (p .receiver) 0) (length sent));
+            limit = memory .limit;
           })) ≡ reacting
       unfolding holding view setAir setLabels setRows setRecords setActives sending send append setSerials
       reaction-done packets′ g =

@@ -28,7 +28,7 @@ use Rattle.steps.specs.declared.Done.{Done}
 use Rattle.steps.specs.declared.Happened.{Happened}
 use Rattle.steps.specs.Called.{done, Called}
 use Rattle.steps.specs.Happens.{Happens}
-use Rattle.steps.specs.Lines.{packed, Fits, Packs}
+use Rattle.telling.specs.Lines.{packed, Fits, Packs}
 use Rattle.steps.specs.Ran.{RanDrain}
 use Rattle.steps.specs.Source.{Listed, Next}
 

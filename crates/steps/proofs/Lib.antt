@@ -11,3 +11,4 @@ pub mod CutLaws
 pub mod PartingLaws
 pub mod SingleLaws
 pub mod TraceLaws
+pub mod ToldLaws

@@ -106,6 +106,7 @@ with-rows m rows = record {
   links = m .links;
   n = m .n;
   serials = m .serials;
+  limit = m .limit;
 }
 
 -- The memory with other links and serial numbers.
@@ -123,6 +124,7 @@ with-links m up serials = record {
   links = up;
   n = m .n;
   serials = serials;
+  limit = m .limit;
 }
 
 -- What is known where the code has gathered and decided: whose rows are cut (Down, or the error p), what they lose, the links, and how many
@@ -291,6 +293,7 @@ module _ {memory : Memory} {packets : List Packet} {count kind a b r : ℕ} (h :
         used-is = rw (w .first-is, w .second-is) (used-two (view m) (down a b (view m)) (serials-long h) a b number more (two .0) (two .1) (two .2) serials-down);
         total-is =
             rw (first-number, second-number) (ap length air-down ∙ length-append (left ++ first) second ∙ ap (λ x. x + length second) (length-append left first));
+        limit-is = refl;
       };
       made = λ rows packets′ answer t f outcome.
           let zero : answer ≡ 0 = outcome ∙ rw e in
@@ -383,9 +386,9 @@ module _ {memory : Memory} {packets : List Packet} {count kind a b r : ℕ} (h :
       go (inr w) = none (w .0) (w .1)
 
   -- With the number of packets that stay, as the code counted them.
-  module _ {stay stop : ℕ} (x : stay ≡ length left) (s : stop ≡ sendingRefusal airLimit (stay + number + more) mine number theirs more) where
-    stops : stop ≡ (if leb maxU64 mine && ltb 0 number || leb maxU64 theirs && ltb 0 more then 13 else if ltb airLimit (length left + number + more) then 7 else 0)
-    stops = rw x at (both-send airLimit (stay + number + more) mine number theirs more s)
+  module _ {stay stop : ℕ} (x : stay ≡ length left) (s : stop ≡ sendingRefusal (memory .limit) (stay + number + more) mine number theirs more) where
+    stops : stop ≡ (if leb maxU64 mine && ltb 0 number || leb maxU64 theirs && ltb 0 more then 13 else if ltb (memory .limit) (length left + number + more) then 7 else 0)
+    stops = rw x at (both-send (memory .limit) (stay + number + more) mine number theirs more s)
 
     pub cut-stopped : stop ≢ 0 → Happens m (eventOf kind a b) (happened m stop 0 0)
     cut-stopped = happens-stopped h zero (ending .does) stops

@@ -30,7 +30,7 @@ use Rattle.network.proofs.PacketLaws.{air-length}
 use Rattle.network.proofs.Ranged.{Ranged, in-range-ranged}
 use Rattle.steps.specs.declared.Happened.{Happened}
 use Rattle.steps.specs.Happens.{happened, Happens}
-use Rattle.steps.specs.Lines.{packed, Fits, Packs}
+use Rattle.telling.specs.Lines.{packed, Fits, Packs}
 use Rattle.steps.specs.Ran.{Ran, told, ToldFit, RunEnds}
 use Rattle.steps.specs.Source.{Listed, Next, goesOn, linePlace}
 use Rattle.steps.proofs.HappenLaws.{happens-after, happens-in-range, happens-line}
@@ -51,6 +51,7 @@ airing m packets count = record {
   links = m .links;
   n = m .n;
   serials = m .serials;
+  limit = m .limit;
 }
 
 -- The tables have their sizes.

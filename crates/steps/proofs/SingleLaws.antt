@@ -12,7 +12,7 @@ use Rattle.network.specs.declared.Memory.{Memory}
 use Rattle.network.specs.View.{view}
 use Rattle.steps.specs.declared.Happened.{Happened}
 use Rattle.steps.specs.Happens.{happened, Happens}
-use Rattle.steps.specs.Lines.{packed, Fits}
+use Rattle.telling.specs.Lines.{packed, Fits}
 use Rattle.steps.specs.Ran.{Ran, told, ToldFit}
 use Rattle.steps.proofs.HappenLaws.{happens-line}
 

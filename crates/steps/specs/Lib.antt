@@ -1,7 +1,6 @@
 pub mod Called
 pub mod Drained
 pub mod Happens
-pub mod Lines
 pub mod Parting
 pub mod Ran
 pub mod Source

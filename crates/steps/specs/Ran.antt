@@ -15,7 +15,7 @@ use Rattle.draining.specs.Draining.{Turn, deliveriesIn, lossesIn, Drained}
 use Rattle.steps.specs.declared.Happened.{Happened}
 use Rattle.steps.specs.declared.Run.{Run}
 use Rattle.steps.specs.Happens.{Happens}
-use Rattle.steps.specs.Lines.{packed, Fits}
+use Rattle.telling.specs.Lines.{packed, Fits}
 
 -- After i events from this memory the memory is `last`: each event has happened on the memory that the one before left.
 unfoldable pub Ran : Memory → (kinds operands : List ℕ) → (i : ℕ) → (last : Memory) → Type 0

@@ -8,7 +8,7 @@ use lib.Dec.{ltb}
 use Rattle.base.specs.Choice.{if_then_else_}
 use Rattle.draining.specs.declared.Event.{Event}
 use Rattle.draining.specs.Following.{Follows}
-use Rattle.steps.specs.Lines.{packed, Fits}
+use Rattle.telling.specs.Lines.{packed, Fits}
 
 -- Event i of a list.
 pub record Listed (kinds operands : List ℕ) (i : ℕ) (r : Event) : Type 0 where

@@ -2,7 +2,6 @@
 use network::Memory;
 
 pub mod drain;
-pub mod lines;
 pub mod parting;
 pub mod running;
 pub mod single;

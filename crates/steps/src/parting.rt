@@ -11,12 +11,12 @@ ghost use Rattle.model.specs.Calls.{dropBetween};
 ghost use Rattle.network.specs.View.{packetsOf};
 ghost use Rattle.station.specs.Reacting.{sentBy};
 ghost use Rattle.steps.specs.Parting.{restOf};
-use network::AIR_LIMIT;
 use network::Packet;
 use network::packets::apart_count;
 use network::packets::without_between;
 use station::sending::copies;
 use station::sending::transmit;
+use validation::AIR_LIMIT;
 
 // How many packets stay, where packet k goes or not.
 pub fn stay(count: u8, drops: bool) -> u8

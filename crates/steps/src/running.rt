@@ -9,7 +9,6 @@ ghost use Rattle.model.specs.Events.{eventLimit};
 ghost use Rattle.network.specs.View.{view};
 ghost use Rattle.steps.specs.Ran.{RunEnds};
 use crate::Run;
-use crate::lines::line;
 use crate::parting::left_of;
 use crate::parting::parted;
 use crate::parting::stay;
@@ -35,7 +34,6 @@ use decisions::tracing::Walk;
 use decisions::tracing::advance;
 use label::label_of;
 use model::most_hops;
-use network::AIR_LIMIT;
 use network::Air;
 use network::Memory;
 use network::packets::error;
@@ -46,6 +44,8 @@ use station::sending::copies;
 use station::sending::error_scope;
 use station::sending::exchange;
 use station::sending::transmit;
+use telling::lines::line;
+use validation::AIR_LIMIT;
 
 // Events one after the other: those of a list, whose lines the lent array tells; or, where the run drains the air, packet 0 delivered or lost
 // until no packet is left.
@@ -98,7 +98,7 @@ pub fn run(
             memory.active[own] = active & (kind != 4);
             lines[at] = line(0, 0, count, 0);
         } else if class == 1 {
-            let limit = most_hops(n);
+            let most = most_hops(n);
             let mut walk = Walk {
                 answer: 0,
                 at: station,
@@ -107,7 +107,7 @@ pub fn run(
             while walk.answer == 0 {
                 let cell = place(walk.at, t);
                 let row = memory.rows[cell];
-                walk = advance(walk, row, t, limit);
+                walk = advance(walk, row, t, most);
             }
             lines[at] = line(walk.answer, 0, count, walk.hops);
         } else if class == 2 {
@@ -142,7 +142,8 @@ pub fn run(
             let there = second as usize;
             let mine = memory.serials[here];
             let theirs = memory.serials[there];
-            let stop = sending_refusal(AIR_LIMIT, total, mine, sent, theirs, more);
+            let limit = memory.limit;
+            let stop = sending_refusal(limit, total, mine, sent, theirs, more);
             if stop != 0 {
                 lines[at] = line(stop, 0, count, 0);
             } else {
@@ -209,7 +210,8 @@ pub fn run(
             let sent = copies(c.scope, links, n, station);
             let counted = told(kind, sent);
             let total = left + sent;
-            let stop = sending_refusal(AIR_LIMIT, total, serial, counted, 0, 0);
+            let limit = memory.limit;
+            let stop = sending_refusal(limit, total, serial, counted, 0, 0);
             if stop != 0 {
                 lines[at] = line(stop, 0, count, 0);
             } else {

@@ -6,9 +6,9 @@ ghost use Rattle.model.specs.Events.{eventOf};
 ghost use Rattle.network.specs.View.{view};
 ghost use Rattle.steps.specs.Happens.{Happens};
 use crate::Happened;
-use crate::lines::answer_of;
-use crate::lines::hops_of;
-use crate::lines::sent_of;
+use telling::lines::answer_of;
+use telling::lines::hops_of;
+use telling::lines::sent_of;
 use crate::running::run;
 use network::Memory;
 

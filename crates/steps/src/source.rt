@@ -4,7 +4,7 @@ ghost use mathlib.Core.Bool.{false};
 ghost use Prim.Native.Nat.{_+_, _*_, _<_};
 ghost use lib.ListN.{length};
 ghost use Rattle.steps.specs.Source.{Listed, Next, goesOn, linePlace};
-use crate::lines::answer_of;
+use telling::lines::answer_of;
 use draining::Event;
 use draining::packet_left;
 use draining::turn_after;

@@ -1,15 +1,19 @@
-// Tests of what a caller hands in that need no memory: n and start, stations, the number of events, and what is an event.
+// Tests of what a caller hands in that need no memory: n, start and the air limit, stations, the number of events, and what is an event.
 ghost use mathlib.Core.Path.{_≡_};
 ghost use mathlib.Core.Bool.{_||_};
 ghost use Prim.Native.Nat.{_*_, _≤_, min};
 ghost use lib.ListN.{length};
 ghost use lib.Dec.{leb, eqb};
 ghost use Rattle.model.specs.Memory.{sizeInRange};
-ghost use Rattle.model.specs.Calls.{notOpening};
+ghost use Rattle.base.specs.Choice.{if_then_else_};
+ghost use Rattle.model.specs.Calls.{notOpening, notLimit};
 ghost use Rattle.model.specs.Events.{notEvent, notEvents, allEvents};
 
 // The most events of a script or a run.
 pub const EVENT_LIMIT: usize = 4096;
+
+// The most packets in the air, whatever a network's own limit.
+pub const AIR_LIMIT: u8 = 128;
 
 // Whether n is 2 to 16.
 pub fn size_in_range(n: usize) -> bool
@@ -26,6 +30,26 @@ pub fn open_refused(n: usize, start: u64) -> bool
     ensures { λ r. ⌜ r ≡ notOpening n start ⌝ }
 {
     !size_in_range(n) | (start == 0)
+}
+
+// 14: whether an air limit is over 128.
+pub fn limit_refused(limit: usize) -> bool
+    ensures { λ r. ⌜ r ≡ notLimit limit ⌝ }
+{
+    (AIR_LIMIT as usize) < limit
+}
+
+// The first number that turns Open down, 0 if none does: 1, then 14.
+pub fn open_refusal(n: usize, start: u64, limit: usize) -> u32
+    ensures { λ r. ⌜ r ≡ (if notOpening n start then 1 else if notLimit limit then 14 else 0) ⌝ }
+{
+    if open_refused(n, start) {
+        return 1;
+    }
+    if limit_refused(limit) {
+        return 14;
+    }
+    0
 }
 
 // A station or a place in the air that fits a byte: no network in range has a 255th.

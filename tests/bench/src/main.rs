@@ -10,8 +10,9 @@ use differential::program::root;
 use differential::random::Random;
 use differential::scripts::{styled, Script, STYLES};
 use reference::calls::Drained;
+use reference::console::PRINTOUT_BYTES;
 use reference::label::{Label, UNASSIGNED};
-use reference::network::{Bytes, Network, Row, Successor, LENGTH, MAX_STATIONS, MAX_SUCCESSORS};
+use reference::network::{Bytes, Network, Row, Successor, LENGTH, MAX_PACKETS, MAX_STATIONS, MAX_SUCCESSORS};
 use reference::script::{DELIVER, MAX_EVENTS};
 use std::hint::black_box;
 use std::io::Write;
@@ -115,7 +116,7 @@ type Make = fn(Call, &mut [u8], &mut [u8]) -> u64;
 fn calls_of(make: Make, script: &Script) -> f64 {
     let mut memory = vec![0; LENGTH];
     timed(script.kinds.len(), || {
-        make(Call::Open(script.n, script.start), &mut memory, &mut []);
+        make(Call::Open(script.n, script.start, MAX_PACKETS), &mut memory, &mut []);
         for (_, kind, a, b) in script.events() {
             black_box(make(call_of(kind, a, b), &mut memory, &mut []));
         }
@@ -129,9 +130,39 @@ fn bench_scripts_by_calls(scripts: &[(String, Script)]) {
     }
 }
 
+type Run = fn(&mut [u8], &[u8], &[u8], &mut [u64]) -> u64;
+
+/// The events of a script as one run, after Open, which is not timed.
+fn run_of(make: Make, run: Run, script: &Script) -> f64 {
+    let (mut memory, mut lines) = (vec![0; LENGTH], vec![0; MAX_EVENTS]);
+    make(Call::Open(script.n, script.start, MAX_PACKETS), &mut memory, &mut []);
+    timed(script.kinds.len(), || {
+        black_box(run(&mut memory, &script.kinds, &script.operands, &mut lines));
+    })
+}
+
+/// A script as one rehearsal, its text included.
+fn rehearsal_of(rehearse: fn(&[u8], usize, &mut [u8]) -> u64, script: &Script) -> f64 {
+    let (bytes, mut out) = (script.bytes(), vec![0; PRINTOUT_BYTES]);
+    timed(script.kinds.len(), || {
+        black_box(rehearse(&bytes, MAX_PACKETS, &mut out));
+    })
+}
+
+fn bench_runs(scripts: &[(String, Script)]) {
+    heading("Nanoseconds for each event of Run, where a script's events are one run.");
+    for (what, script) in scripts {
+        Times::of(|| (run_of(by_library, library::run, script), run_of(by_reference, reference::console::run, script))).print(what);
+    }
+    heading("Nanoseconds for each event of Rehearse, text included.");
+    for (what, script) in scripts {
+        Times::of(|| (rehearsal_of(library::rehearse, script), rehearsal_of(reference::console::rehearse, script))).print(what);
+    }
+}
+
 /// The events of a script in place by the Rust build, with what a console call adds to them.
 fn events_of(script: &Script, ranged: bool, settled: bool) -> f64 {
-    let mut network = Network::fresh(script.n, script.start);
+    let mut network = Network::fresh(script.n, script.start, MAX_PACKETS);
     timed(script.kinds.len(), || {
         for (_, kind, a, b) in script.events() {
             if ranged {
@@ -175,7 +206,7 @@ fn calls_on(make: Make, network: &[u8], call: Call) -> f64 {
 /// A network that a script leads to, with packets in the air, and a call on it that is answered so.
 fn before_answer(scripts: &[(String, Script)], kind: u8, answer: u32) -> (Vec<u8>, Call) {
     for (_, script) in scripts.iter().filter(|(_, script)| script.n == MAX_STATIONS) {
-        let mut network = Network::fresh(script.n, script.start);
+        let mut network = Network::fresh(script.n, script.start, MAX_PACKETS);
         for (_, its_kind, a, b) in script.events() {
             let before = *network;
             let its_answer = network.event(its_kind, a, b).map_or_else(|number| number, |done| done.outcome);
@@ -197,7 +228,7 @@ fn before_delivery(scripts: &[(String, Script)], answer: u32) -> (Vec<u8>, usize
 
 /// Sixteen stations, each linked to all others, of which eight seek at once.
 fn flood() -> Box<Network> {
-    let mut network = Network::fresh(MAX_STATIONS, 1);
+    let mut network = Network::fresh(MAX_STATIONS, 1, MAX_PACKETS);
     for b in 1..MAX_STATIONS {
         (0..b).for_each(|a| assert!(network.up(a, b).is_ok()));
     }
@@ -211,6 +242,7 @@ fn longest_drain() -> Box<Network> {
     let full = |seed: u64| {
         let mut random = Random::new(seed);
         let mut network = some_network(&mut random);
+        network.limit = MAX_PACKETS as u8;
         fill_air(&mut random, &mut network);
         network
     };
@@ -280,7 +312,9 @@ fn bench_calls(scripts: &[(String, Script)]) {
         Times::of(|| (calls_on(by_library, &network, call), calls_on(by_reference, &network, call))).print(what);
     }
     let (network, _) = before_answer(scripts, DELIVER, 103);
-    for (what, call) in [("Open", Call::Open(16, 1)), ("Size", Call::Size), ("Row", Call::Row(3, 0)), ("Packet", Call::Packet(7))] {
+    for (what, call) in
+        [("Open", Call::Open(16, 1, MAX_PACKETS)), ("Size", Call::Size), ("Row", Call::Row(3, 0)), ("Packet", Call::Packet(7))]
+    {
         Times::of(|| (calls_on(by_library, &network, call), calls_on(by_reference, &network, call))).print(what);
     }
 }
@@ -390,6 +424,7 @@ fn main() {
     scripts.push((format!("4 stations, {}", STYLES[0].name), of(0, 4)));
     bench_programs(&scripts);
     bench_scripts_by_calls(&scripts);
+    bench_runs(&scripts);
     bench_parts(&scripts);
     bench_calls(&scripts);
     bench_previews(&scripts);

@@ -4,13 +4,14 @@ use reference::calls::{Answer, Drained};
 use reference::label::Label;
 use reference::network::{Network, Packet, Preview, Record, Row, Station, ERROR, LENGTH};
 use reference::printout::put_event;
+use reference::running::{Line, Tally};
 use reference::script;
 use std::mem::{offset_of, size_of};
 
 /// Every function of include/srp.h that takes memory.
 #[derive(Clone, Copy, PartialEq, Eq, Debug)]
 pub enum Call {
-    Open(usize, u64),
+    Open(usize, u64, usize),
     Up(usize, usize),
     Down(usize, usize),
     Solicit(usize, usize),
@@ -20,9 +21,12 @@ pub enum Call {
     Lose(usize),
     Duplicate(usize),
     Drain,
+    /// A run of one event: its kind and operands.
+    Run(u8, u8, u8),
     Trace(usize, usize),
     Size,
     Air,
+    Limit,
     Link(usize, usize),
     Label(usize, usize),
     Row(usize, usize),
@@ -38,7 +42,7 @@ macro_rules! made_by {
         pub fn $name(call: Call, memory: &mut [u8], out: &mut [u8]) -> u64 {
             use $($build)::+ as build;
             match call {
-                Call::Open(n, start) => build::open(memory, n, start),
+                Call::Open(n, start, limit) => build::open(memory, n, start, limit),
                 Call::Up(a, b) => build::up(memory, a, b),
                 Call::Down(a, b) => build::down(memory, a, b),
                 Call::Solicit(a, t) => build::solicit(memory, a, t),
@@ -48,9 +52,11 @@ macro_rules! made_by {
                 Call::Lose(k) => build::lose(memory, k),
                 Call::Duplicate(k) => build::duplicate(memory, k),
                 Call::Drain => build::drain(memory),
+                Call::Run(kind, a, b) => in_lines(out, |lines| build::run(memory, &[kind], &[a, b], lines)),
                 Call::Trace(a, t) => build::trace(memory, a, t),
                 Call::Size => build::size(memory),
                 Call::Air => build::air(memory),
+                Call::Limit => build::limit(memory),
                 Call::Link(a, b) => build::link(memory, a, b),
                 Call::Label(i, t) => build::label(memory, i, t, out),
                 Call::Row(i, t) => build::row(memory, i, t, out),
@@ -66,8 +72,16 @@ macro_rules! made_by {
 made_by!(by_library: library);
 made_by!(by_reference: reference::console);
 
+/// Bytes lent as lines, as many as they are.
+fn in_lines(bytes: &mut [u8], call: impl FnOnce(&mut [u64]) -> u64) -> u64 {
+    let mut lines: Vec<u64> = bytes.chunks_exact(8).map(|line| u64::from_le_bytes(line.try_into().unwrap())).collect();
+    let result = call(&mut lines);
+    bytes.chunks_exact_mut(8).zip(lines).for_each(|(bytes, line)| bytes.copy_from_slice(&line.to_le_bytes()));
+    result
+}
+
 /// Every call but Open, each with these stations and this packet.
-pub fn calls_but_open(a: usize, b: usize, k: usize) -> [Call; 19] {
+pub fn calls_but_open(a: usize, b: usize, k: usize) -> [Call; 21] {
     [
         Call::Up(a, b),
         Call::Down(a, b),
@@ -78,9 +92,11 @@ pub fn calls_but_open(a: usize, b: usize, k: usize) -> [Call; 19] {
         Call::Lose(k),
         Call::Duplicate(k),
         Call::Drain,
+        Call::Run(script::EXPIRE, a as u8, b as u8),
         Call::Trace(a, b),
         Call::Size,
         Call::Air,
+        Call::Limit,
         Call::Link(a, b),
         Call::Label(a, b),
         Call::Row(a, b),
@@ -120,15 +136,22 @@ pub fn drained_of(result: u64) -> (u32, Drained) {
     ((result & 0xffff) as u32, Drained { deliveries: (result >> 16 & 0xff_ffff) as u32, losses: (result >> 40) as u32 })
 }
 
+/// What a run or a rehearsal tells: its answer, the length of its text, and its tally.
+pub fn tallied_of(result: u64) -> (u32, usize, Tally) {
+    let second = result >> 40;
+    let tally = Tally { calls: (second & 0xffff) as u32, highest: (second >> 16) as u8 };
+    ((result & 0xffff) as u32, (result >> 16 & 0xff_ffff) as usize, tally)
+}
+
 /// The answer in the result of a call.
 pub fn answer_to(call: Call, result: u64) -> u32 {
     match call {
-        Call::Drain => drained_of(result).0,
+        Call::Drain | Call::Run(..) => drained_of(result).0,
         _ => answer_of(result),
     }
 }
 
-fn is_refused(result: u64) -> bool {
+pub fn is_refused(result: u64) -> bool {
     (1..100).contains(&answer_of(result))
 }
 
@@ -227,8 +250,8 @@ impl Desk {
         let result = by_library(call_of(kind, a, b), &mut self.library, &mut []);
         let network = Network::of_mut(&mut self.reference).unwrap();
         let answer = network.event(kind, a, b);
-        let wanted_line = line(index, kind, a, b, answer, network.in_air);
-        let line = line(index, kind, a, b, told(kind, result), Network::of(&self.library).unwrap().in_air);
+        let wanted_line = line(index, kind, a, b, Line::of(answer, network.in_air));
+        let line = line(index, kind, a, b, line_of(kind, result, &self.library));
         if line != wanted_line {
             return Err(format!("the library's line and the Rust build's:\n{line}{wanted_line}"));
         }
@@ -300,6 +323,7 @@ impl Desk {
 fn shown(call: Call, result: u64) -> String {
     match call {
         Call::Drain => format!("{:?}", drained_of(result)),
+        Call::Run(..) => format!("{:?}", tallied_of(result)),
         _ => format!("answer {} and count {}", answer_of(result), count_of(result)),
     }
 }
@@ -336,14 +360,19 @@ fn told(kind: u8, result: u64) -> Answer {
     Ok(reference::calls::Done { outcome: answer_of(result), sent, hops })
 }
 
-fn line(index: usize, kind: u8, a: u8, b: u8, answer: Answer, in_air: u8) -> String {
+/// The line of an event that a call made, by its result and the memory after it.
+pub fn line_of(kind: u8, result: u64, memory: &[u8]) -> Line {
+    Line::of(told(kind, result), Network::of(memory).unwrap().in_air)
+}
+
+pub fn line(index: usize, kind: u8, a: u8, b: u8, line: Line) -> String {
     let mut out = Vec::new();
-    put_event(&mut out, index, kind, a, b, answer, in_air);
+    put_event(&mut out, index, kind, a, b, line);
     String::from_utf8(out).unwrap()
 }
 
 /// The first byte that differs, by the layout's name for its place.
-fn difference(library: &[u8], reference: &[u8]) -> String {
+pub fn difference(library: &[u8], reference: &[u8]) -> String {
     let at = library.iter().zip(reference).position(|(a, b)| a != b).unwrap();
     format!("{}: the library has {}, the Rust build {}", place(at), library[at], reference[at])
 }
@@ -364,6 +393,9 @@ pub fn place(at: usize) -> String {
     let packets = offset_of!(Network, packets);
     if at >= LENGTH {
         return format!("byte {at}, past the layout");
+    }
+    if at == offset_of!(Network, limit) {
+        return "the air limit".into();
     }
     if at >= packets {
         let (k, byte) = ((at - packets) / size_of::<Packet>(), (at - packets) % size_of::<Packet>());

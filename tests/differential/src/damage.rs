@@ -7,7 +7,7 @@ use crate::scripts::{script_of, Script};
 use crate::tally::Tally;
 use reference::label::{Label, UNASSIGNED};
 use reference::network::{
-    Bytes, Network, Packet, Record, Row, Station, Successor, ERROR, LENGTH, MAX_STATIONS, NO_PACKET, NO_ROW, REPLY, REQUEST,
+    Bytes, Network, Packet, Record, Row, Station, Successor, ERROR, LENGTH, MAX_PACKETS, MAX_STATIONS, NO_PACKET, NO_ROW, REPLY, REQUEST,
 };
 use std::mem::{offset_of, size_of};
 
@@ -17,7 +17,7 @@ fn some_byte(random: &mut Random, network: &Network) -> usize {
     let pair = MAX_STATIONS * random.below(n) + random.below(n);
     let packet = random.below(usize::from(network.in_air).max(1));
     let station = random.below(n);
-    let (pick, anywhere) = (random.below(14), random.below(LENGTH));
+    let (pick, anywhere) = (random.below(15), random.below(LENGTH));
     // A byte of an entry of a table: one of those that are named, or any.
     let mut of = |table: usize, size: usize, place: usize, named: &[usize]| {
         table + size * place + if random.percent(50) { random.of(named) } else { random.below(size) }
@@ -37,6 +37,7 @@ fn some_byte(random: &mut Random, network: &Network) -> usize {
         10 => offset_of!(Network, n),
         11 => offset_of!(Network, in_air),
         12 => offset_of!(Network, version),
+        13 => offset_of!(Network, limit),
         _ => anywhere,
     }
 }
@@ -47,7 +48,8 @@ pub fn whole_network(random: &mut Random, case: usize, examples: &[Script]) -> B
         return some_network(random);
     }
     let script = script_of(case, examples);
-    let mut network = Network::fresh(script.n, script.start);
+    let limit = if random.percent(50) { MAX_PACKETS } else { random.below(MAX_PACKETS + 1) };
+    let mut network = Network::fresh(script.n, script.start, limit);
     for (_, kind, a, b) in script.events() {
         let _ = network.event(kind, a, b);
     }
@@ -57,6 +59,7 @@ pub fn whole_network(random: &mut Random, case: usize, examples: &[Script]) -> B
 /// A packet in the air, of this kind and in range.
 fn packet_of<'a>(random: &mut Random, network: &'a mut Network, kind: u8) -> &'a mut Packet {
     network.in_air = network.in_air.max(1);
+    network.limit = network.limit.max(1);
     let search = Packet { number: 1, destination: 1, label: UNASSIGNED, ..NO_PACKET };
     let packet = &mut network.packets[random.below(usize::from(network.in_air))];
     *packet = Packet { receiver: 1, kind, ..if kind == ERROR { NO_PACKET } else { search } };
@@ -73,7 +76,7 @@ fn row_of(network: &mut Network, i: usize, t: usize) -> &mut Row {
 }
 
 /// How many ways there are to break a network.
-const CLAUSES: usize = 38;
+const CLAUSES: usize = 41;
 
 /// Breaks one clause of 01's "Memory is in range if ..", or one of docs/LAYOUT.md's on bytes that have no meaning.
 fn break_clause(random: &mut Random, network: &mut Network, clause: usize) {
@@ -125,7 +128,19 @@ fn break_clause(random: &mut Random, network: &mut Network, clause: usize) {
         33 => packet_of(random, network, ERROR).source = 1,
         34 => packet_of(random, network, ERROR).destination = 1,
         35 => packet_of(random, network, ERROR).reset = 1,
-        36 => network.version = random.of(&[0, 1, n as u8, 16, 17, 19, 146, 255]),
+        36 => network.version = random.of(&[0, 1, n as u8, 16, 17, 18, 20, 147, 255]),
+        37 => network.limit = random.between(129, 255) as u8,
+        // The packets in the air are over the limit, and each of them is in range.
+        38 => {
+            packet_of(random, network, ERROR);
+            network.limit = random.below(usize::from(network.in_air)) as u8;
+        }
+        39 => {
+            let packet = *packet_of(random, network, ERROR);
+            network.packets.fill(packet);
+            network.limit = network.limit.min(127);
+            network.in_air = random.between(usize::from(network.limit) + 1, MAX_PACKETS) as u8;
+        }
         // A mask with a bit for no station; with 16 stations there is none.
         _ if n < MAX_STATIONS => packet_of(random, network, ERROR).mask = 1 << random.between(n, MAX_STATIONS - 1),
         _ => network.n = 0,

@@ -3,10 +3,12 @@
 pub mod calls;
 pub mod damage;
 pub mod labels;
+pub mod limits;
 pub mod networks;
 pub mod program;
 pub mod random;
 pub mod rows;
+pub mod runs;
 pub mod script_bytes;
 pub mod scripts;
 pub mod serials;

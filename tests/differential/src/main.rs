@@ -10,7 +10,7 @@
 use differential::random::Random;
 use differential::scripts::{self, Script};
 use differential::tally::{Tally, ANSWERS};
-use differential::{damage, labels, networks, program, rows, script_bytes, serials, versions};
+use differential::{damage, labels, limits, networks, program, rows, runs, script_bytes, serials, versions};
 use std::panic::{catch_unwind, AssertUnwindSafe};
 use std::process::ExitCode;
 use std::sync::atomic::{AtomicBool, AtomicU64, AtomicUsize, Ordering::Relaxed};
@@ -30,7 +30,7 @@ struct Family {
     /// Whether they have to deliver and to lose packets by draining.
     drains: bool,
     /// What they have to meet besides, by its name.
-    named: &'static [&'static str],
+    named: Vec<&'static str>,
 }
 
 /// The scripts that the examples are.
@@ -47,7 +47,7 @@ const TRIPLES: usize = 10_000;
 
 fn families() -> Vec<Family> {
     let scripts = examples();
-    let [for_damage, for_memory, for_clauses, for_versions] = [(); 4].map(|()| scripts.clone());
+    let [for_damage, for_memory, for_clauses, for_versions, for_limits] = [(); 5].map(|()| scripts.clone());
     vec![
         Family {
             name: "labels",
@@ -56,7 +56,7 @@ fn families() -> Vec<Family> {
             meets: &[0, 1, 112, 113, 114],
             previews: &[],
             drains: false,
-            named: &[],
+            named: vec![],
         },
         Family {
             name: "rows",
@@ -65,7 +65,7 @@ fn families() -> Vec<Family> {
             meets: &[0, 1, 2],
             previews: &[],
             drains: false,
-            named: &[],
+            named: vec![],
         },
         Family {
             name: "script-bytes",
@@ -80,16 +80,16 @@ fn families() -> Vec<Family> {
             meets: &[0, 1, 9, 10, 11, 12],
             previews: &[],
             drains: false,
-            named: &[],
+            named: vec![],
         },
         Family {
             name: "networks",
             cases: 20_000,
             check: Box::new(networks::check_network),
-            meets: &[0, 1, 2, 3, 4, 5, 6, 7, 8, 12, 13, 101, 102, 103, 104, 111, 112, 113, 114, 115, 121, 122, 123, 131, 132, 133],
+            meets: &[0, 1, 2, 3, 4, 5, 6, 7, 8, 11, 12, 13, 14, 101, 102, 103, 104, 111, 112, 113, 114, 115, 121, 122, 123, 131, 132, 133],
             previews: &[6, 7, 12, 13, 101, 102, 103, 104, 111, 112, 113, 114, 115, 121, 122, 123],
             drains: false,
-            named: &serials::OF_CALLS,
+            named: [&serials::OF_CALLS[..], &limits::OF_CALLS].concat(),
         },
         Family {
             name: "drains",
@@ -98,7 +98,18 @@ fn families() -> Vec<Family> {
             meets: &[0, 4, 7, 8, 13],
             previews: &[],
             drains: true,
-            named: &[serials::DRAIN],
+            named: vec![serials::DRAIN, limits::DRAIN],
+        },
+        Family {
+            name: "runs",
+            cases: runs::CASES,
+            check: Box::new(runs::check),
+            meets: &[
+                0, 1, 2, 3, 4, 5, 6, 7, 8, 9, 10, 11, 12, 13, 14, 101, 102, 103, 104, 111, 112, 113, 114, 115, 121, 122, 123, 131, 132, 133,
+            ],
+            previews: &[1],
+            drains: false,
+            named: vec![runs::HIGHER, runs::NO_HIGHER],
         },
         Family {
             name: "memory-lengths",
@@ -107,7 +118,7 @@ fn families() -> Vec<Family> {
             meets: &[0, 1],
             previews: &[1, 6],
             drains: false,
-            named: &[],
+            named: vec![],
         },
         Family {
             name: "versions",
@@ -116,7 +127,7 @@ fn families() -> Vec<Family> {
             meets: &[0, 1],
             previews: &[1],
             drains: false,
-            named: &[],
+            named: vec![],
         },
         Family {
             name: "broken-clauses",
@@ -125,7 +136,7 @@ fn families() -> Vec<Family> {
             meets: &[1],
             previews: &[1],
             drains: false,
-            named: &[],
+            named: vec![],
         },
         Family {
             name: "damaged-memory",
@@ -134,7 +145,7 @@ fn families() -> Vec<Family> {
             meets: &[0, 1, 2, 6],
             previews: &[1, 6, 101, 102, 103, 111, 112, 113, 115, 121, 122, 123],
             drains: false,
-            named: &[],
+            named: vec![],
         },
         Family {
             name: "damaged-scripts",
@@ -143,7 +154,7 @@ fn families() -> Vec<Family> {
             meets: &[0, 1, 9, 10, 11],
             previews: &[],
             drains: false,
-            named: &[],
+            named: vec![],
         },
         Family {
             name: "scripts",
@@ -152,7 +163,16 @@ fn families() -> Vec<Family> {
             meets: &[0, 2, 3, 4, 5, 6, 7, 101, 102, 103, 104, 111, 112, 114, 115, 121, 122, 123, 131, 132],
             previews: &[6, 7, 12, 101, 102, 103, 104, 111, 112, 114, 115, 121, 122, 123],
             drains: true,
-            named: &[serials::LOWER, serials::HIGHER],
+            named: vec![serials::LOWER, serials::HIGHER],
+        },
+        Family {
+            name: "limits",
+            cases: 2_520,
+            check: Box::new(move |case| limits::check(&scripts::script_of(case, &for_limits), &mut Random::new(!case as u64))),
+            meets: &[0, 2, 3, 4, 5, 6, 7, 101, 102, 103, 104, 111, 112, 114, 115, 121, 122, 123, 131, 132],
+            previews: &[],
+            drains: false,
+            named: vec![limits::OF_128, limits::OF_ANOTHER, limits::NOT_REACHED],
         },
     ]
 }
@@ -262,7 +282,7 @@ fn check_all() -> ExitCode {
             println!("differential: {} never met answer {answer} by a preview", family.name);
             code = ExitCode::FAILURE;
         }
-        for name in family.named {
+        for name in &family.named {
             let times = tally.named.get(name).copied().unwrap_or(0);
             println!("differential: {} met {times} times: {name}", family.name);
             if times == 0 {
@@ -303,7 +323,10 @@ fn check_script(hex: &str) -> ExitCode {
     let Some(bytes) = bytes_of(hex) else { return usage() };
     print!("{}", String::from_utf8_lossy(&reference::printout::rehearse(&bytes)));
     let checked = match Script::of(&bytes) {
-        Ok(script) => scripts::check(&script, &mut Random::new(0)).and_then(|_| scripts::check_previews(&script)),
+        Ok(script) => {
+            let checked = scripts::check(&script, &mut Random::new(0)).and_then(|_| scripts::check_previews(&script));
+            checked.and_then(|()| limits::check(&script, &mut Random::new(0)).map(|_| ()))
+        }
         Err(_) => scripts::check_program(&bytes),
     };
     match checked {

@@ -1,6 +1,7 @@
 //! Memory that no list of calls makes: random networks in range, and slices of other lengths.
 
 use crate::calls::{answer_of, answer_to, Call, Desk, OUT, PREVIEW};
+use crate::limits;
 use crate::random::Random;
 use crate::serials;
 use crate::tally::Tally;
@@ -9,6 +10,7 @@ use reference::network::{
     Bytes, Network, Packet, Record, Row, Station, Successor, ERROR, LENGTH, MAX_PACKETS, MAX_STATIONS, MAX_SUCCESSORS, NO_PACKET, NO_ROW,
     REPLY, REQUEST, VERSION,
 };
+use reference::script::{uses_b, DELIVER, DUPLICATE, LOSE, UP};
 use std::mem::size_of;
 
 /// The numbers that a network's labels are made of, and those of its sendings: few, so that equal and neighbouring ones meet.
@@ -117,7 +119,7 @@ fn some_packet(random: &mut Random, palette: &Palette, network: &Network) -> Pac
 pub fn some_network(random: &mut Random) -> Box<Network> {
     let n = random.between(2, MAX_STATIONS);
     let palette = Palette::new(random);
-    let mut network = Network::fresh(n, 1);
+    let mut network = Network::fresh(n, 1, MAX_PACKETS);
     if random.percent(50) {
         let mut bytes = vec![0; LENGTH];
         random.fill(&mut bytes);
@@ -163,6 +165,12 @@ pub fn some_network(random: &mut Random) -> Box<Network> {
         _ => random.between(MAX_PACKETS - 3, MAX_PACKETS),
     };
     put_packets(random, &palette, &mut network, in_air);
+    // A limit that the packets are within: the highest, or one that is near or reached.
+    network.limit = match random.below(4) {
+        0 | 1 => MAX_PACKETS,
+        2 => (in_air + random.below(4)).min(MAX_PACKETS),
+        _ => random.between(in_air, MAX_PACKETS),
+    } as u8;
     network
 }
 
@@ -174,10 +182,15 @@ fn put_packets(random: &mut Random, palette: &Palette, network: &mut Network, in
     }
 }
 
-/// An air that is full.
+/// An air that is full: as many packets as the limit.
 pub fn fill_air(random: &mut Random, network: &mut Network) {
     let palette = Palette::new(random);
-    put_packets(random, &palette, network, MAX_PACKETS);
+    put_packets(random, &palette, network, usize::from(network.limit));
+}
+
+/// Air limits, some of them over 128.
+fn some_limit(random: &mut Random) -> usize {
+    random.of(&[0, 1, 7, 127, 128, 129, 130, 255, 256, 384, 1 << 32, usize::MAX])
 }
 
 /// A station that there mostly is, or a number that is none.
@@ -198,11 +211,14 @@ fn some_place(random: &mut Random, in_air: usize) -> usize {
 
 /// A call that mostly names stations and packets that there are.
 pub fn some_call(random: &mut Random, n: usize, in_air: usize) -> Call {
-    const WEIGHTS: [usize; 20] = [1, 6, 8, 10, 4, 3, 60, 3, 8, 10, 1, 1, 2, 2, 2, 2, 2, 2, 12, 1];
+    const WEIGHTS: [usize; 22] = [1, 6, 8, 10, 4, 3, 60, 3, 8, 10, 1, 1, 2, 2, 2, 2, 2, 2, 12, 1, 1, 4];
     let (a, b) = (some_station(random, n), some_station(random, n));
     let k = some_place(random, in_air);
     match random.weighted(&WEIGHTS) {
-        0 => Call::Open(random.of(&[0, 1, 2, 9, 16, 17, 18, 258, usize::MAX]), random.of(&[0, 1, 7, u64::MAX])),
+        0 => {
+            let (n, start) = (random.of(&[0, 1, 2, 9, 16, 17, 18, 258, usize::MAX]), random.of(&[0, 1, 7, u64::MAX]));
+            Call::Open(n, start, some_limit(random))
+        }
         1 => Call::Up(a, b),
         2 => Call::Down(a, b),
         3 => Call::Solicit(a, b),
@@ -221,8 +237,28 @@ pub fn some_call(random: &mut Random, n: usize, in_air: usize) -> Call {
         16 => Call::Station(a),
         17 => Call::Packet(k),
         18 => Call::Preview(k),
-        _ => Call::Drain,
+        19 => Call::Drain,
+        20 => Call::Limit,
+        _ => some_run(random, n, in_air),
     }
+}
+
+/// An event that mostly names stations and packets that there are.
+pub fn some_event(random: &mut Random, n: usize, in_air: usize) -> (u8, u8, u8) {
+    const WEIGHTS: [usize; 9] = [5, 6, 10, 4, 3, 50, 8, 12, 5];
+    let kind = UP + random.weighted(&WEIGHTS) as u8;
+    let a = if matches!(kind, DELIVER | LOSE | DUPLICATE) { some_place(random, in_air) } else { some_station(random, n) };
+    let b = if uses_b(kind) { some_station(random, n) } else { 0 };
+    (kind, a as u8, b as u8)
+}
+
+/// A run of such an event, now and then of what may be none.
+fn some_run(random: &mut Random, n: usize, in_air: usize) -> Call {
+    let (kind, a, b) = some_event(random, n, in_air);
+    if random.percent(5) {
+        return Call::Run(random.of(&[0, kind, 10, 255]), a, random.byte());
+    }
+    Call::Run(kind, a, b)
 }
 
 /// Around what a preview shows, or what one of the other calls does.
@@ -230,6 +266,7 @@ fn some_out_length(random: &mut Random, call: Call) -> usize {
     const SIZES: [usize; 5] = [size_of::<Station>(), size_of::<Label>(), size_of::<Record>(), size_of::<Packet>(), size_of::<Row>()];
     match call {
         Call::Preview(_) => random.of(&[0, size_of::<Row>(), PREVIEW - 1, PREVIEW, PREVIEW, PREVIEW + 1, PREVIEW + 1, OUT]),
+        Call::Run(..) => random.of(&[0, 7, 8, 8, 8, 16, OUT]),
         _ => match random.below(6) {
             0 => random.of(&[0, OUT]),
             _ => random.of(&SIZES) - random.below(2),
@@ -237,9 +274,10 @@ fn some_out_length(random: &mut Random, call: Call) -> usize {
     }
 }
 
-/// Draining, and how many packets it loses by 13. One of eight is repeated by single calls.
+/// Draining, and how many packets it loses by 13, and by 7 under a limit below 128. One of eight is repeated by single calls.
 fn drain(tally: &mut Tally, desk: &mut Desk, random: &mut Random) -> Result<(), String> {
     tally.count_named(serials::DRAIN, serials::lost_by_draining(desk.network()));
+    tally.count_named(limits::DRAIN, limits::lost_by_draining(desk.network()));
     tally.count_drain(desk.drain(random.percent(12))?);
     Ok(())
 }
@@ -285,7 +323,8 @@ pub fn check_network(case: usize) -> Result<Tally, String> {
         if answer_to(call, result) == 1 && !matches!(call, Call::Open(..)) {
             return Err(format!("call {step}: {call:?}: a network in range is taken for one out of range"));
         }
-        for name in serials::met_by(desk.network_before(), call, answer_to(call, result)) {
+        let (before, answer) = (desk.network_before(), answer_to(call, result));
+        for name in serials::met_by(before, call, answer).into_iter().chain(limits::met_by(before, call, answer, desk.network())) {
             tally.count_named(name, 1);
         }
         tally.count_call(call, answer_to(call, result));
@@ -306,7 +345,8 @@ pub fn check_lengths(case: usize) -> Result<Tally, String> {
         let mut desk = Desk::new(&bytes);
         for call in std::iter::repeat_with(|| some_call(&mut random, network.stations(), 1)).take(10).chain([
             Call::Drain,
-            Call::Open(9, 1),
+            Call::Open(9, 1, 128),
+            Call::Open(9, 1, 129),
             Call::Size,
         ]) {
             let result = desk.call(call, OUT).map_err(|what| format!("a slice of {length} bytes: {what}"))?;

@@ -85,7 +85,7 @@ struct Growing {
 
 impl Growing {
     fn new(n: usize, start: u64) -> Growing {
-        Growing { script: Script { n, start, kinds: vec![], operands: vec![] }, network: Network::fresh(n, start) }
+        Growing { script: Script { n, start, kinds: vec![], operands: vec![] }, network: Network::fresh(n, start, MAX_PACKETS) }
     }
 
     fn push(&mut self, kind: u8, a: u8, b: u8) {
@@ -268,9 +268,10 @@ fn check_routes(network: &Network) -> Result<(), String> {
 /// Any question about the network.
 fn question(random: &mut Random) -> Call {
     let (a, b) = (random.below(18), random.below(18));
-    match random.below(8) {
+    match random.below(9) {
         0 => Call::Size,
         1 => Call::Air,
+        8 => Call::Limit,
         2 => Call::Link(a, b),
         3 => Call::Label(a, b),
         4 => Call::Row(a, b),
@@ -299,12 +300,12 @@ fn check_some_preview(tally: &mut Tally, desk: &mut Desk, random: &mut Random) -
 }
 
 /// What no event of a script is answered. Numbers of sendings begin at 1, so 13 is for memory that no script makes.
-fn never(answer: u32) -> bool {
+pub fn never(answer: u32) -> bool {
     matches!(answer, 1 | 13 | 133)
 }
 
 /// What holds of the memory after any events from Open.
-fn check_made(network: &Network) -> Result<(), String> {
+pub fn check_made(network: &Network) -> Result<(), String> {
     check_routes(network)?;
     serials::check(network)
 }
@@ -316,7 +317,7 @@ pub fn check(script: &Script, random: &mut Random) -> Result<Tally, String> {
     let mut bytes = vec![0; LENGTH + random.below(3)];
     random.fill(&mut bytes);
     let mut desk = Desk::new(&bytes);
-    desk.call(Call::Open(script.n, script.start), 0).map_err(|what| failure(script, 0, what))?;
+    desk.call(Call::Open(script.n, script.start, MAX_PACKETS), 0).map_err(|what| failure(script, 0, what))?;
     for (index, kind, a, b) in script.events() {
         let fails = |what| failure(script, index + 1, what);
         let answer = answer_of(desk.event(index, kind, a, b).map_err(fails)?);
@@ -347,7 +348,7 @@ pub fn check(script: &Script, random: &mut Random) -> Result<Tally, String> {
 /// Previews of every packet in the air after a script. One that was cut where a preview differs shows it again.
 pub fn check_previews(script: &Script) -> Result<(), String> {
     let mut desk = Desk::new(&[0; LENGTH]);
-    desk.call(Call::Open(script.n, script.start), 0)?;
+    desk.call(Call::Open(script.n, script.start, MAX_PACKETS), 0)?;
     for (index, kind, a, b) in script.events() {
         desk.event(index, kind, a, b)?;
     }

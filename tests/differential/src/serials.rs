@@ -1,7 +1,7 @@
 //! What the numbers of sendings (02, F-4) lead to, by name, so that the tests can be asked to meet each of it.
 
 use crate::calls::Call;
-use reference::network::{Network, ERROR};
+use reference::network::{Network, ERROR, MAX_PACKETS};
 use std::cmp::Ordering;
 
 /// An error is delivered to a station whose row names its sender: its number beside the entry's.
@@ -79,6 +79,7 @@ fn otherwise(before: &Network, k: usize) -> u32 {
     let mut alone = renewed(before, &[usize::from(before.packets[k].receiver)]);
     alone.packets[0] = before.packets[k];
     alone.in_air = 1;
+    alone.limit = MAX_PACKETS as u8;
     alone.deliver(0).expect("a packet alone in the air").outcome
 }
 

@@ -4,7 +4,7 @@ use crate::calls::Call;
 use reference::calls::Drained;
 use std::collections::BTreeMap;
 
-/// Answers are 0, 1 to 13 and 101 to 133.
+/// Answers are 0, 1 to 14 and 101 to 133.
 pub const ANSWERS: usize = 134;
 
 pub struct Tally {
@@ -15,7 +15,7 @@ pub struct Tally {
     /// By draining, all together.
     pub deliveries: u64,
     pub losses: u64,
-    /// What `serials` has names for.
+    /// What `serials` and `limits` have names for.
     pub named: BTreeMap<&'static str, u64>,
 }
 

@@ -1,4 +1,4 @@
-//! Memory of other versions: another first byte, the layout of version 17, and the layout that had no version.
+//! Memory of other versions: another first byte, the layouts of versions 18 and 17, and the layout that had no version.
 
 use crate::calls::{answer_to, calls_but_open, Call, Desk, OUT};
 use crate::damage::whole_network;
@@ -7,7 +7,14 @@ use crate::scripts::Script;
 use crate::tally::Tally;
 use reference::network::{Bytes, Network, LENGTH, MAX_SUCCESSORS, VERSION};
 
-/// What stood behind the stations in the layouts before: the parts that stand there now, with no number in a row's entry and in a packet.
+/// A network in the layout of version 18, which had no air limit at its end.
+fn bytes_of_18(network: &Network) -> Vec<u8> {
+    let mut bytes = network.bytes()[..40_931].to_vec();
+    bytes[0] = 18;
+    bytes
+}
+
+/// What stood behind the stations in the layouts before 18: the parts that stand there now, with no number in a row's entry and in a packet.
 fn rest_before(network: &Network) -> Vec<u8> {
     let mut bytes = network.links.as_flattened().to_vec();
     network.labels.as_flattened().iter().for_each(|label| bytes.extend(label.bytes()));
@@ -57,7 +64,7 @@ impl Operands {
         Operands(a, (a + random.between(1, n - 1)) % n, random.below(usize::from(network.in_air).max(1)))
     }
 
-    fn calls(self) -> [Call; 19] {
+    fn calls(self) -> [Call; 21] {
         calls_but_open(self.0, self.1, self.2)
     }
 }
@@ -96,7 +103,7 @@ fn check_taken(tally: &mut Tally, network: &Network, operands: Operands) -> Resu
 /// Open asks for the length alone, and writes the version.
 fn check_opened(tally: &mut Tally, bytes: &[u8], n: usize) -> Result<(), String> {
     let mut desk = Desk::new(bytes);
-    let call = Call::Open(n, 1);
+    let call = Call::Open(n, 1, 128);
     let answer = answer_to(call, desk.call(call, 0)?);
     let wanted = if bytes.len() < LENGTH { (1, bytes[0], bytes[1]) } else { (0, VERSION, n as u8) };
     if (answer, desk.memory()[0], desk.memory()[1]) != wanted {
@@ -114,7 +121,7 @@ pub fn check(case: usize, examples: &[Script]) -> Result<Tally, String> {
     let operands = Operands::of(&mut random, &network);
     check_taken(&mut tally, &network, operands)?;
     // 256 cases in a row have every first byte that there is. Where n stood once it was 2 to 16.
-    for version in [0, 2, 16, 17, 19, 255, network.n, case as u8, random.byte(), random.byte()] {
+    for version in [0, 2, 16, 17, 18, 20, 255, network.n, case as u8, random.byte(), random.byte()] {
         if version == VERSION {
             continue;
         }
@@ -124,7 +131,12 @@ pub fn check(case: usize, examples: &[Script]) -> Result<Tally, String> {
             .and_then(|()| check_opened(&mut tally, &bytes, network.stations()))
             .map_err(|what| format!("where the first byte is {version}: {what}"))?;
     }
-    for (name, before) in [("of version 17", bytes_of_17(&network)), ("that had no version", bytes_without_version(&network))] {
+    let layouts = [
+        ("of version 18", bytes_of_18(&network)),
+        ("of version 17", bytes_of_17(&network)),
+        ("that had no version", bytes_without_version(&network)),
+    ];
+    for (name, before) in layouts {
         for length in [before.len(), LENGTH, LENGTH + 5] {
             let mut bytes = before.clone();
             bytes.resize(length, random.byte());

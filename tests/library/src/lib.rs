@@ -18,7 +18,7 @@ macro_rules! entry_points {
 }
 
 entry_points! { &mut [u8], as_mut_ptr, *mut u8:
-    srp_open = open(n: usize, start: u64);
+    srp_open = open(n: usize, start: u64, limit: usize);
     srp_up = up(a: usize, b: usize);
     srp_down = down(a: usize, b: usize);
     srp_solicit = solicit(a: usize, t: usize);
@@ -34,6 +34,7 @@ entry_points! { &[u8], as_ptr, *const u8:
     srp_trace = trace(a: usize, t: usize);
     srp_size = size();
     srp_air = air();
+    srp_limit = limit();
     srp_link = link(a: usize, b: usize);
     srp_label = label(i: usize, t: usize; out);
     srp_row = row(i: usize, t: usize; out);
@@ -43,6 +44,34 @@ entry_points! { &[u8], as_ptr, *const u8:
     srp_preview = preview(k: usize; out);
     srp_find = find(station: usize);
     srp_script_start = script_start();
+    srp_rehearse = rehearse(limit: usize; out);
+}
+
+pub fn run(memory: &mut [u8], kinds: &[u8], operands: &[u8], lines: &mut [u64]) -> u64 {
+    extern "C" {
+        fn srp_run(
+            memory: *mut u8,
+            length: usize,
+            kinds: *const u8,
+            kinds_length: usize,
+            operands: *const u8,
+            operands_length: usize,
+            lines: *mut u64,
+            lines_length: usize,
+        ) -> u64;
+    }
+    unsafe {
+        srp_run(
+            memory.as_mut_ptr(),
+            memory.len(),
+            kinds.as_ptr(),
+            kinds.len(),
+            operands.as_ptr(),
+            operands.len(),
+            lines.as_mut_ptr(),
+            lines.len(),
+        )
+    }
 }
 
 pub fn read_script(script: &[u8], kinds: &mut [u8], operands: &mut [u8]) -> u64 {

@@ -1,10 +1,8 @@
-//! 01, "What each call does", on memory in range, as 02's F-4 amends it. A call that is turned down ends with the first number of 01's
-//! table that applies, before it writes anything; the tests come in 01's order, with 13 in its place: 2, 3 to 6, 8, 13, 7.
+//! 01, "What each call does", on memory in range, as 02's F-4 and F-5 amend it. A call that is turned down ends with the first number of
+//! 01's table that applies, before it writes anything; the tests come in 01's order, with 13 in its place: 2, 3 to 6, 8, 13, 7.
 
 use crate::label::{new_label, Label, UNASSIGNED};
-use crate::network::{
-    Network, Packet, Preview, Record, Station, Successor, ERROR, MAX_PACKETS, NO_PACKET, NO_PREVIEW, NO_ROW, REPLY, REQUEST,
-};
+use crate::network::{Network, Packet, Preview, Record, Station, Successor, ERROR, NO_PACKET, NO_PREVIEW, NO_ROW, REPLY, REQUEST};
 
 /// What an accepted call tells: its outcome number (0: none), the packets that it sent, and Trace's hops.
 #[derive(Clone, Copy, PartialEq, Eq, Debug)]
@@ -55,9 +53,9 @@ impl Network {
         refused_if(sent > 0 && self.kept[from].serial == u64::MAX, 13)
     }
 
-    /// 7 where so many packets gone and so many sent make more than 128.
+    /// 7 where so many packets gone and so many sent make more than the network's limit: F-5's "7 then reads that limit".
     fn test_room(&self, gone: usize, sent: usize) -> Result<(), u32> {
-        refused_if(usize::from(self.in_air) - gone + sent > MAX_PACKETS, 7)
+        refused_if(usize::from(self.in_air) - gone + sent > usize::from(self.limit), 7)
     }
 
     pub fn up(&mut self, a: usize, b: usize) -> Answer {

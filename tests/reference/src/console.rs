@@ -1,10 +1,15 @@
-//! The functions of include/srp.h on byte slices, in place. A result has the answer in its low half and a count in its high half; that of
-//! `drain` has the answer in its lowest 16 bits and two counts of 24 bits above it.
+//! The functions of include/srp.h on byte slices, in place. A result has the answer in its low half and a count in its high half; those of
+//! `drain`, `run` and `rehearse` have the answer in their lowest 16 bits and two counts of 24 bits above it.
 
 use crate::calls::{Answer, Drained};
 use crate::label::{new_label as new_label_in_range, Label};
 use crate::network::{Bytes, Network, Row, MAX_STATIONS, MAX_SUCCESSORS};
+use crate::printout;
+use crate::running::Tally;
 use crate::script;
+
+/// The room that a rehearsal's text has to have.
+pub const PRINTOUT_BYTES: usize = 184_320;
 
 fn result(answer: u32, count: u32) -> u64 {
     u64::from(answer) | u64::from(count) << 32
@@ -22,15 +27,15 @@ fn told(answer: Answer) -> u64 {
     }
 }
 
-/// "A console slice shorter than the layout (for Open too) .. counts as memory out of range; Open tests the length only."
-pub fn open(memory: &mut [u8], n: usize, start: u64) -> u64 {
-    match Network::of_mut(memory) {
-        Some(network) if script::test_opening(n, start).is_ok() => {
-            network.open(n, start);
-            result(0, 0)
-        }
-        _ => result(1, 0),
-    }
+/// "A console slice shorter than the layout (for Open too) .. counts as memory out of range; Open tests the length only." 14 is "tested at
+/// Open after 1".
+pub fn open(memory: &mut [u8], n: usize, start: u64, limit: usize) -> u64 {
+    shown(Network::of_mut(memory).ok_or(1).and_then(|network| {
+        script::test_opening(n, start)?;
+        script::test_limit(limit)?;
+        network.open(n, start, limit);
+        Ok(0)
+    }))
 }
 
 /// The network in a slice, where it is in range.
@@ -89,6 +94,37 @@ pub fn drain(memory: &mut [u8]) -> u64 {
     }
 }
 
+/// The length of a text and a tally, or the number that turned the call down.
+fn tallied(answer: Result<(usize, Tally), u32>) -> u64 {
+    match answer {
+        Ok((length, tally)) => result_of_two(0, length as u32, tally.calls + 65_536 * u32::from(tally.highest)),
+        Err(number) => result_of_two(number, 0, 0),
+    }
+}
+
+/// A run of events on the network, whose lines go to a lent array: 10, 1, 11, 12.
+pub fn run(memory: &mut [u8], kinds: &[u8], operands: &[u8], lines: &mut [u64]) -> u64 {
+    let sizes = script::test_sizes(kinds, operands);
+    tallied(sizes.and_then(|()| {
+        made(memory, |network| {
+            script::test_events(kinds, operands)?;
+            let told = lines.get_mut(..kinds.len()).ok_or(12u32)?;
+            Ok((0, network.run(kinds, operands, |index, line| told[index] = line.packed())))
+        })
+    }))
+}
+
+/// A script rehearsed under a limit, whose text goes to a lent array: 9, 10, 1, 11, 14, 12.
+pub fn rehearse(script: &[u8], limit: usize, out: &mut [u8]) -> u64 {
+    tallied(printout::rehearse_under(script, limit).and_then(|(text, tally)| {
+        if out.len() < PRINTOUT_BYTES {
+            return Err(12);
+        }
+        out[..text.len()].copy_from_slice(&text);
+        Ok((text.len(), tally))
+    }))
+}
+
 pub fn trace(memory: &[u8], a: usize, t: usize) -> u64 {
     told(ranged(memory).and_then(|network| network.trace(a, t)))
 }
@@ -113,6 +149,10 @@ pub fn size(memory: &[u8]) -> u64 {
 
 pub fn air(memory: &[u8]) -> u64 {
     shown(ranged(memory).map(|network| u32::from(network.in_air)))
+}
+
+pub fn limit(memory: &[u8]) -> u64 {
+    shown(ranged(memory).map(|network| u32::from(network.limit)))
 }
 
 pub fn link(memory: &[u8], a: usize, b: usize) -> u64 {

@@ -39,7 +39,7 @@ macro_rules! shows {
 }
 
 calls! {
-    srp_open = open(n: usize, start: u64);
+    srp_open = open(n: usize, start: u64, limit: usize);
     srp_up = up(a: usize, b: usize);
     srp_down = down(a: usize, b: usize);
     srp_solicit = solicit(a: usize, t: usize);
@@ -55,6 +55,7 @@ questions! {
     srp_trace = trace(a, t);
     srp_size = size();
     srp_air = air();
+    srp_limit = limit();
     srp_link = link(a, b);
     srp_script_start = script_start();
     srp_find = find(station);
@@ -67,6 +68,28 @@ shows! {
     srp_station = station(i);
     srp_packet = packet(k);
     srp_preview = preview(k);
+    srp_rehearse = rehearse(limit);
+}
+
+#[no_mangle]
+pub unsafe extern "C" fn srp_run(
+    memory: *mut u8,
+    length: usize,
+    kinds: *const u8,
+    kinds_length: usize,
+    operands: *const u8,
+    operands_length: usize,
+    lines: *mut u64,
+    lines_length: usize,
+) -> u64 {
+    unsafe {
+        console::run(
+            slice_mut(memory, length),
+            slice(kinds, kinds_length),
+            slice(operands, operands_length),
+            slice_mut(lines, lines_length),
+        )
+    }
 }
 
 #[no_mangle]

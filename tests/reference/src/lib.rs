@@ -7,6 +7,7 @@ pub mod console;
 pub mod label;
 pub mod network;
 pub mod printout;
+pub mod running;
 pub mod script;
 
 #[cfg(feature = "entry-points")]

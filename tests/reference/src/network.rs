@@ -8,7 +8,7 @@ pub const MAX_SUCCESSORS: usize = 4;
 pub const MAX_PACKETS: usize = 128;
 
 /// What the first byte of the layout is.
-pub const VERSION: u8 = 18;
+pub const VERSION: u8 = 19;
 
 pub const REQUEST: u8 = 1;
 pub const REPLY: u8 = 2;
@@ -89,10 +89,12 @@ pub struct Network {
     pub records: [[Record; MAX_STATIONS]; MAX_STATIONS],
     pub in_air: u8,
     pub packets: [Packet; MAX_PACKETS],
+    /// The air limit (02, F-5).
+    pub limit: u8,
 }
 
 pub const LENGTH: usize = size_of::<Network>();
-const _: () = assert!(LENGTH == 40_931 && align_of::<Network>() == 1 && cfg!(target_endian = "little"));
+const _: () = assert!(LENGTH == 40_932 && align_of::<Network>() == 1 && cfg!(target_endian = "little"));
 
 /// The bytes of an entry as the layout has them.
 ///
@@ -131,6 +133,7 @@ pub const NO_NETWORK: Network = Network {
     records: [[NO_RECORD; MAX_STATIONS]; MAX_STATIONS],
     in_air: 0,
     packets: [NO_PACKET; MAX_PACKETS],
+    limit: 0,
 };
 
 impl Row {
@@ -198,18 +201,20 @@ impl Row {
 
 impl Network {
     /// "In fresh memory every station is passive with last sought 0, and every record has number, destination and last hop 0, C
-    /// unassigned and nothing passed." "Station t's label for itself is (start, 0/1) .. All other labels start unassigned."
-    pub fn open(&mut self, n: usize, start: u64) {
+    /// unassigned and nothing passed." "Station t's label for itself is (start, 0/1) .. All other labels start unassigned." "Open takes
+    /// an air limit of 0 to 128" (02, F-5).
+    pub fn open(&mut self, n: usize, start: u64, limit: usize) {
         *self = NO_NETWORK;
         self.n = n as u8;
+        self.limit = limit as u8;
         for t in 0..n {
             self.labels[t][t] = Label::new(start, 0, 1);
         }
     }
 
-    pub fn fresh(n: usize, start: u64) -> Box<Network> {
+    pub fn fresh(n: usize, start: u64, limit: usize) -> Box<Network> {
         let mut network = Box::new(NO_NETWORK);
-        network.open(n, start);
+        network.open(n, start, limit);
         network
     }
 
@@ -294,12 +299,14 @@ impl Network {
     }
 
     /// "Memory is in range if ..", and its bytes have a meaning (docs/LAYOUT.md, "What is turned down"). Nothing is asked of the sendings'
-    /// numbers.
+    /// numbers; 02's F-5 asks that "the kept limit is at most 128 and the air count at most that limit".
     pub fn in_range(&self) -> bool {
         let n = self.stations();
         self.version == VERSION
             && (2..=MAX_STATIONS).contains(&n)
             && usize::from(self.in_air) <= MAX_PACKETS
+            && usize::from(self.limit) <= MAX_PACKETS
+            && self.in_air <= self.limit
             && (0..n).all(|i| self.station_in_range(i))
             && self.air().iter().all(|packet| self.packet_in_range(packet))
     }

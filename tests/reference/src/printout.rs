@@ -1,28 +1,9 @@
-//! 01, "Scripts and the printout": events and what a rehearsal prints.
+//! 01, "Scripts and the printout": what a rehearsal prints.
 
-use crate::calls::{Answer, Done};
 use crate::label::UNASSIGNED;
-use crate::network::Network;
+use crate::network::{Network, MAX_PACKETS};
+use crate::running::{Line, Tally};
 use crate::script;
-
-impl Network {
-    /// An event of a script on memory in range: the call of its kind.
-    pub fn event(&mut self, kind: u8, a: u8, b: u8) -> Answer {
-        let (a, b) = (usize::from(a), usize::from(b));
-        match kind {
-            script::UP => self.up(a, b),
-            script::DOWN => self.down(a, b),
-            script::SOLICIT => self.solicit(a, b),
-            script::GIVE_UP => self.give_up(a),
-            script::EXPIRE => self.expire(a, b),
-            script::DELIVER => self.deliver(a),
-            script::LOSE => self.lose(a),
-            script::DUPLICATE => self.duplicate(a),
-            script::TRACE => self.trace(a, b),
-            _ => Err(11),
-        }
-    }
-}
 
 /// A line's fields are "decimal with one space between, and a line feed ends each line".
 fn end_line(out: &mut [u8]) {
@@ -44,16 +25,15 @@ fn put(out: &mut Vec<u8>, mut number: u64) {
     out.extend_from_slice(&digits[first..]);
 }
 
-/// "per event: index, kind, a, b, answer (the refusal or outcome number, 0 if neither), packets sent (0 if refused, and for
-/// Duplicate), packets in the air after it, hops (0 but for an accepted Trace)".
-pub fn put_event(out: &mut Vec<u8>, index: usize, kind: u8, a: u8, b: u8, answer: Answer, in_air: u8) {
-    let done = answer.unwrap_or_else(|number| Done { outcome: number, sent: 0, hops: 0 });
+/// "per event: index, kind, a, b, answer .., packets sent .., packets in the air after it, hops".
+pub fn put_event(out: &mut Vec<u8>, index: usize, kind: u8, a: u8, b: u8, line: Line) {
     put(out, index as u64);
     for byte in [kind, a, b] {
         put(out, u64::from(byte));
     }
-    for number in [done.outcome, done.sent, u32::from(in_air), done.hops] {
-        put(out, u64::from(number));
+    put(out, u64::from(line.answer));
+    for byte in [line.sent, line.in_air, line.hops] {
+        put(out, u64::from(byte));
     }
     end_line(out);
 }
@@ -78,23 +58,29 @@ pub fn put_labels(out: &mut Vec<u8>, network: &Network) {
     }
 }
 
-/// What the rehearsal program prints of a script: "A script turned down prints `R`, a space and the number."
-pub fn rehearse(script: &[u8]) -> Vec<u8> {
+/// A script rehearsed under an air limit: its text, and the tally, which "is returned and not printed" (02, F-5). Turned down with the
+/// number of reading it, then with Open's 14.
+pub fn rehearse_under(script: &[u8], limit: usize) -> Result<(Vec<u8>, Tally), u32> {
+    let (sizes, kinds, operands) = script::parse(script)?;
+    script::test_limit(limit)?;
     let mut out = Vec::new();
-    match script::parse(script) {
+    let mut network = Network::fresh(usize::from(sizes.n), sizes.start, limit);
+    let tally = network.run(kinds, operands, |index, line| {
+        put_event(&mut out, index, kinds[index], operands[2 * index], operands[2 * index + 1], line);
+    });
+    put_labels(&mut out, &network);
+    Ok((out, tally))
+}
+
+/// What the rehearsal program prints of a script: "A script turned down prints `R`, a space and the number." It "runs with limit 128".
+pub fn rehearse(script: &[u8]) -> Vec<u8> {
+    match rehearse_under(script, MAX_PACKETS) {
+        Ok((text, _)) => text,
         Err(number) => {
-            out.extend_from_slice(b"R ");
+            let mut out = b"R ".to_vec();
             put(&mut out, u64::from(number));
             end_line(&mut out);
-        }
-        Ok((sizes, kinds, operands)) => {
-            let mut network = Network::fresh(usize::from(sizes.n), sizes.start);
-            for (index, (&kind, pair)) in kinds.iter().zip(operands.chunks_exact(2)).enumerate() {
-                let answer = network.event(kind, pair[0], pair[1]);
-                put_event(&mut out, index, kind, pair[0], pair[1], answer, network.in_air);
-            }
-            put_labels(&mut out, &network);
+            out
         }
     }
-    out
 }

@@ -1,4 +1,6 @@
-//! 01, "Scripts and the printout": scripts in bytes.
+//! 01, "Scripts and the printout": scripts in bytes, and the tests of what they and Open are handed.
+
+use crate::network::MAX_PACKETS;
 
 /// "Sizes first: n (1 byte), E (2), start (8), little-endian".
 pub const HEAD: usize = 11;
@@ -36,18 +38,36 @@ pub fn test_opening(n: usize, start: u64) -> Result<(), u32> {
     }
 }
 
+/// 14: "limit over 128".
+pub fn test_limit(limit: usize) -> Result<(), u32> {
+    if limit <= MAX_PACKETS {
+        Ok(())
+    } else {
+        Err(14)
+    }
+}
+
 /// "In 4, 6, 7, 8 b is unused".
 pub fn uses_b(kind: u8) -> bool {
     !matches!(kind, GIVE_UP | DELIVER | LOSE | DUPLICATE)
 }
 
 /// 11: "kind not 1..9, or an unused operand not 0".
-fn test_events(kinds: &[u8], operands: &[u8]) -> Result<(), u32> {
+pub fn test_events(kinds: &[u8], operands: &[u8]) -> Result<(), u32> {
     let is_event = |(kind, pair): (&u8, &[u8])| (UP..=TRACE).contains(kind) && (uses_b(*kind) || pair[1] == 0);
     if kinds.iter().zip(operands.chunks_exact(2)).all(is_event) {
         Ok(())
     } else {
         Err(11)
+    }
+}
+
+/// 10 where there are "events over 4,096" or "operands not 2E".
+pub fn test_sizes(kinds: &[u8], operands: &[u8]) -> Result<(), u32> {
+    if kinds.len() <= MAX_EVENTS && operands.len() == 2 * kinds.len() {
+        Ok(())
+    } else {
+        Err(10)
     }
 }
 
@@ -85,12 +105,10 @@ pub fn read(script: &[u8], kinds: &mut [u8], operands: &mut [u8]) -> Result<Size
 
 /// Writes a script into a lent array; the bytes written. Writing tests 10, 1, 11, 12. "Writing takes E from the number of kinds."
 pub fn write(n: usize, start: u64, kinds: &[u8], operands: &[u8], out: &mut [u8]) -> Result<usize, u32> {
-    let events = kinds.len();
-    if events > MAX_EVENTS || operands.len() != 2 * events {
-        return Err(10);
-    }
+    test_sizes(kinds, operands)?;
     test_opening(n, start)?;
     test_events(kinds, operands)?;
+    let events = kinds.len();
     let length = length(events);
     if out.len() < length {
         return Err(12);

@@ -14,10 +14,10 @@ use Rattle.previews.proofs.gather.Tie as tie
 
 -- The rows read so far.
 abbrev Inv-loop : tie.InvT-loop
-Inv-loop k memory n air links at p station own cell slot s m d row kept active serial last sought rows₀ u₀ rows u = (u ≤ 16) × Filled 16 (λ t. getD (memory .rows) (place station t) zeroRow) rows u
+Inv-loop k memory n limit air links at p station own cell slot s m d row kept active serial last sought rows₀ u₀ rows u = (u ≤ 16) × Filled 16 (λ t. getD (memory .rows) (place station t) zeroRow) rows u
 
 abbrev μ-loop : tie.MeasureT-loop
-μ-loop k memory n air links at p station own cell slot s m d row kept active serial last sought rows₀ u₀ rows u = 16 - u
+μ-loop k memory n limit air links at p station own cell slot s m d row kept active serial last sought rows₀ u₀ rows u = 16 - u
 
 -- A place of the function, with this invariant and measure.
 abbrev Of : (tie.InvT-loop → tie.MeasureT-loop → Type 0) → Type 0

@@ -18,11 +18,11 @@ use Rattle.previews.proofs.preview_of.Tie as tie
 
 -- The rows looked at so far.
 abbrev Inv-loop : tie.InvT-loop
-Inv-loop k seen n count number left serial links station carried cut losses₀ u₀ losses u =
+Inv-loop k seen n count number left limit serial links station carried cut losses₀ u₀ losses u =
     (u ≤ n) × ((m : Memory) → InRange m → seen ≡ gatheredOf m k → Lost cut (map rowOf (m .rows)) u losses)
 
 abbrev μ-loop : tie.MeasureT-loop
-μ-loop k seen n count number left serial links station carried cut losses₀ u₀ losses u = n - u
+μ-loop k seen n count number left limit serial links station carried cut losses₀ u₀ losses u = n - u
 
 -- A place of the function, with this invariant and measure.
 abbrev Of : (tie.InvT-loop → tie.MeasureT-loop → Type 0) → Type 0

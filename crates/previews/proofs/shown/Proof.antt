@@ -17,12 +17,12 @@ turned-down-requires c κs = search needs
 returns : tie.Need-returns
 returns c =
     let args = c .before .before .before .args in
-    shown-stopped (args .serial) (args .sent) (args .left + args .sent) (c .before .before .sending-refusal .ensures) _ (c .before .if1 .taken) (c .turned-down .ensures)
+    shown-stopped (args .limit) (args .serial) (args .sent) (args .left + args .sent) (c .before .before .sending-refusal .ensures) _ (c .before .if1 .taken) (c .turned-down .ensures)
 
 returns-2 : tie.Need-returns-2
 returns-2 c =
     let args = c .before .before .args in
-    shown-whole (args .serial) (args .sent) (args .left + args .sent) (c .before .sending-refusal .ensures) _ (c .if1 .left)
+    shown-whole (args .limit) (args .serial) (args .sent) (args .left + args .sent) (c .before .sending-refusal .ensures) _ (c .if1 .left)
 
 pub shown-spec : {M : Type 1} → statement M
 shown-spec = tie.close (tie.spec add-sending-refusal sending-refusal-requires turned-down-requires returns returns-2)

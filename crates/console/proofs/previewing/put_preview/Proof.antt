@@ -8,9 +8,9 @@ use borrow.Author.Needs.{needs}
 use Rattle.codec.specs.Bytes.{littleEndian}
 use Rattle.codec.proofs.ByteLaws.{sets-next}
 use Rattle.codec.proofs.FieldLaws.{written-wide}
-use Rattle.layout.specs.Written.{labelBytes, rowBytes}
-use Rattle.layout.specs.Formats.{labelFormat, labelWide, rowWide}
-use Rattle.layout.proofs.EntryLaws.{row-wide}
+use Rattle.formats.specs.Written.{labelBytes, rowBytes}
+use Rattle.formats.specs.Formats.{labelFormat, labelWide, rowWide}
+use Rattle.formats.proofs.EntryLaws.{row-wide}
 use Rattle.rows.specs.View.{rowOf}
 use Rattle.console.specs.Previewing.{previewBytes}
 use Rattle.console.proofs.previewing.put_preview.Statement.{statement}

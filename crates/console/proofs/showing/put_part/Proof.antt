@@ -8,8 +8,8 @@ use borrow.Author.Needs.{needs}
 use Rattle.model.specs.Memory.{Row, Record, airLimit}
 use Rattle.label.specs.declared.Label.{Label}
 use Rattle.network.specs.View.{packetOf}
-use Rattle.layout.specs.Formats.{Station}
-use Rattle.layout.specs.Written.{labelBytes, rowBytes, recordBytes, stationBytes, packetBytes}
+use Rattle.formats.specs.Formats.{Station}
+use Rattle.formats.specs.Written.{labelBytes, rowBytes, recordBytes, stationBytes, packetBytes}
 use Rattle.console.proofs.ShownLaws.{cell-below, station-there, packet-there, part-label, part-row, part-record, part-station, part-packet}
 use Rattle.console.proofs.showing.put_part.Statement.{statement}
 use Rattle.console.proofs.showing.put_part.Tie as tie

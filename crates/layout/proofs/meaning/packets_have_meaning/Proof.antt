@@ -7,9 +7,9 @@ use borrow.Author.Needs.{needs}
 use Rattle.base.specs.Lists.{allBelow}
 use Rattle.base.proofs.Booleans.{not-was-true, not-was-false}
 use Rattle.base.proofs.Loops.{all-none, all-more, all-ends, all-broken}
-use Rattle.layout.specs.Formats.{packetWide}
+use Rattle.formats.specs.Formats.{packetWide}
+use Rattle.formats.specs.Meaning.{packetHasMeaning}
 use Rattle.layout.specs.Places.{packetsAt}
-use Rattle.layout.specs.Meaning.{packetHasMeaning}
 use Rattle.layout.proofs.meaning.packets_have_meaning.Statement.{statement}
 use Rattle.layout.proofs.meaning.packets_have_meaning.Tie as tie
 

@@ -8,7 +8,7 @@ use Rattle.base.specs.Lists.{allBelow}
 use Rattle.base.proofs.Booleans.{not-was-true, not-was-false}
 use Rattle.base.proofs.Loops.{all-none, all-more, all-ends, all-broken}
 use Rattle.codec.specs.Fields.{flagsAt}
-use Rattle.layout.specs.Formats.{stationFormat, stationWide}
+use Rattle.formats.specs.Formats.{stationFormat, stationWide}
 use Rattle.layout.specs.Places.{stationsAt}
 use Rattle.layout.specs.Meaning.{pairHasMeaning, stationHasMeaning}
 use Rattle.layout.proofs.meaning.station_has_meaning.Statement.{statement}

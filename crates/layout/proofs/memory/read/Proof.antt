@@ -2,7 +2,7 @@
 use lib.ListN.{getD}
 use borrow.Author.Needs.{needs}
 use Rattle.network.specs.View.{view}
-use Rattle.layout.specs.Places.{sizeAt}
+use Rattle.layout.specs.Places.{sizeAt, limitAt}
 use Rattle.layout.specs.Stored.{networkIn}
 use Rattle.layout.proofs.memory.read.Statement.{statement}
 use Rattle.layout.proofs.memory.read.Tie as tie
@@ -28,17 +28,21 @@ read-links-requires c κs = search needs
 shared-slice-read-n : tie.Need-shared-slice-read-n
 shared-slice-read-n c = search needs
 
+shared-slice-read-limit : tie.Need-shared-slice-read-limit
+shared-slice-read-limit c = search needs
+
 returns : tie.Need-returns
 unfolding view networkIn
 returns c =
-    let links = c .before .before .before .before .before .before .before .before in
+    let links = c .before .before .before .before .before .before .before .before .before in
     let stations = links .before in
     let records = stations .before in
     let rows = records .before in
     let labels = rows .before in
     let kept = stations .read-stations .ensures in
+    let bytes = labels .before .before .before .args .bytes .now in
     λ i. record {
-      n = getD (labels .before .before .before .args .bytes .now) sizeAt 0;
+      n = getD bytes sizeAt 0;
       labels = labels .read-labels .ensures i;
       rows = rows .read-rows .ensures i;
       records = records .read-records .ensures i;
@@ -48,6 +52,7 @@ returns c =
       active = kept .2 i;
       serials = kept .3 i;
       air = labels .before .read-air .ensures i;
+      limit = getD bytes limitAt 0;
     }
 
 pub read-spec : {M : Type 1} → statement M
@@ -61,4 +66,5 @@ read-spec =
     read-stations-requires
     read-links-requires
     shared-slice-read-n
+    shared-slice-read-limit
     returns)

@@ -5,9 +5,9 @@ use native.Mathlib.Omega.{arith}
 use borrow.Author.Needs.{needs}
 use Rattle.base.proofs.Loops.{Filled, filled-none, filled-more, filled-all}
 use Rattle.label.specs.declared.Label.{Label}
-use Rattle.layout.specs.Formats.{labelWide}
+use Rattle.formats.specs.Formats.{labelWide}
+use Rattle.formats.specs.Stored.{storedLabel}
 use Rattle.layout.specs.Places.{labelsAt}
-use Rattle.layout.specs.Stored.{storedLabel}
 use Rattle.layout.proofs.StoredLaws.{labels-stored}
 use Rattle.layout.proofs.memory.read_labels.Statement.{statement}
 use Rattle.layout.proofs.memory.read_labels.Tie as tie

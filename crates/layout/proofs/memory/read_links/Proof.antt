@@ -5,9 +5,9 @@ use native.Mathlib.Omega.{arith}
 use borrow.Author.Needs.{needs}
 use Rattle.base.proofs.Loops.{Filled, filled-none, filled-more, filled-all}
 use Rattle.codec.specs.Tables.{tableAt}
-use Rattle.layout.specs.Formats.{linkWide}
+use Rattle.formats.specs.Formats.{linkWide}
+use Rattle.formats.specs.Stored.{storedLink}
 use Rattle.layout.specs.Places.{linksAt}
-use Rattle.layout.specs.Stored.{storedLink}
 use Rattle.layout.proofs.memory.read_links.Statement.{statement}
 use Rattle.layout.proofs.memory.read_links.Tie as tie
 

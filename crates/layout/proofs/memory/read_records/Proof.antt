@@ -7,9 +7,9 @@ use borrow.Author.Needs.{needs}
 use Rattle.base.proofs.Loops.{Filled, filled-none, filled-map-more, filled-all}
 use Rattle.codec.specs.Tables.{tableAt}
 use Rattle.network.specs.View.{recordOf}
-use Rattle.layout.specs.Formats.{recordWide}
+use Rattle.formats.specs.Formats.{recordWide}
+use Rattle.formats.specs.Stored.{storedRecord}
 use Rattle.layout.specs.Places.{recordsAt}
-use Rattle.layout.specs.Stored.{storedRecord}
 use Rattle.layout.proofs.memory.read_records.Statement.{statement}
 use Rattle.layout.proofs.memory.read_records.Tie as tie
 

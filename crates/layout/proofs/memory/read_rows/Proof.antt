@@ -7,9 +7,9 @@ use borrow.Author.Needs.{needs}
 use Rattle.base.proofs.Loops.{Filled, filled-none, filled-map-more, filled-all}
 use Rattle.codec.specs.Tables.{tableAt}
 use Rattle.rows.specs.View.{rowOf}
-use Rattle.layout.specs.Formats.{rowWide}
+use Rattle.formats.specs.Formats.{rowWide}
+use Rattle.formats.specs.Stored.{storedRow}
 use Rattle.layout.specs.Places.{rowsAt}
-use Rattle.layout.specs.Stored.{storedRow}
 use Rattle.layout.proofs.memory.read_rows.Statement.{statement}
 use Rattle.layout.proofs.memory.read_rows.Tie as tie
 

@@ -6,9 +6,9 @@ use native.Mathlib.Omega.{arith}
 use borrow.Author.Needs.{needs}
 use Rattle.base.proofs.Loops.{Filled, filled-none, filled-more, filled-map-more, filled-all}
 use Rattle.network.specs.declared.RequestNumber.{RequestNumber}
-use Rattle.layout.specs.Formats.{Station, stationWide}
+use Rattle.formats.specs.Formats.{Station, stationWide}
+use Rattle.formats.specs.Stored.{storedStation}
 use Rattle.layout.specs.Places.{stationsAt}
-use Rattle.layout.specs.Stored.{storedStation}
 use Rattle.layout.proofs.StoredLaws.{stations-stored}
 use Rattle.layout.proofs.memory.read_stations.Statement.{statement}
 use Rattle.layout.proofs.memory.read_stations.Tie as tie

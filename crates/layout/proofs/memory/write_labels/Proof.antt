@@ -8,9 +8,9 @@ use Rattle.codec.specs.Fields.{Fits}
 use Rattle.codec.proofs.FieldLaws.{written-wide}
 use Rattle.codec.proofs.TableLaws.{Put, put-none, put-length, put-more, put-all}
 use Rattle.network.specs.View.{labelOf}
-use Rattle.layout.specs.Formats.{labelFormat}
+use Rattle.formats.specs.Formats.{labelFormat}
+use Rattle.formats.specs.Written.{labelBytes}
 use Rattle.layout.specs.Places.{layoutLength, labelsAt}
-use Rattle.layout.specs.Written.{labelBytes}
 use Rattle.layout.proofs.memory.write_labels.Statement.{statement}
 use Rattle.layout.proofs.memory.write_labels.Tie as tie
 

@@ -9,9 +9,9 @@ use Rattle.base.proofs.Loops.{tabulate-is}
 use Rattle.codec.specs.Fields.{Fits}
 use Rattle.codec.proofs.FieldLaws.{written-wide}
 use Rattle.codec.proofs.TableLaws.{Put, put-none, put-length, put-more, put-all}
-use Rattle.layout.specs.Formats.{linkFormat}
+use Rattle.formats.specs.Formats.{linkFormat}
+use Rattle.formats.specs.Written.{linkBytes}
 use Rattle.layout.specs.Places.{layoutLength, linksAt}
-use Rattle.layout.specs.Written.{linkBytes}
 use Rattle.layout.proofs.memory.write_links.Statement.{statement}
 use Rattle.layout.proofs.memory.write_links.Tie as tie
 

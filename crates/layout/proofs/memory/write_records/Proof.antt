@@ -9,9 +9,9 @@ use Rattle.codec.specs.Fields.{Fits}
 use Rattle.codec.proofs.FieldLaws.{written-wide}
 use Rattle.codec.proofs.TableLaws.{Put, put-none, put-length, put-more, put-all}
 use Rattle.network.specs.View.{zeroRecord, recordOf}
-use Rattle.layout.specs.Formats.{recordFormat}
+use Rattle.formats.specs.Formats.{recordFormat}
+use Rattle.formats.specs.Written.{recordBytes}
 use Rattle.layout.specs.Places.{layoutLength, recordsAt}
-use Rattle.layout.specs.Written.{recordBytes}
 use Rattle.layout.proofs.memory.write_records.Statement.{statement}
 use Rattle.layout.proofs.memory.write_records.Tie as tie
 

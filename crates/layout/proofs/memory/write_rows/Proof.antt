@@ -7,10 +7,10 @@ use borrow.Author.Needs.{needs}
 use Rattle.base.proofs.Loops.{tabulate-map}
 use Rattle.codec.proofs.TableLaws.{Put, put-none, put-length, put-more, put-all}
 use Rattle.rows.specs.View.{zeroRow, rowOf}
+use Rattle.formats.specs.Written.{rowBytes}
+use Rattle.formats.specs.Fits.{RowFits}
+use Rattle.formats.proofs.EntryLaws.{row-wide}
 use Rattle.layout.specs.Places.{layoutLength, rowsAt}
-use Rattle.layout.specs.Written.{rowBytes}
-use Rattle.layout.specs.Fits.{RowFits}
-use Rattle.layout.proofs.EntryLaws.{row-wide}
 use Rattle.layout.proofs.memory.write_rows.Statement.{statement}
 use Rattle.layout.proofs.memory.write_rows.Tie as tie
 

@@ -1,19 +1,30 @@
 -- `memory::write_stations` meets its contract: the first i entries are put.
-use Prim.Native.Nat.{_-_, _≤_}
-use mathlib.Core.Path.{refl}
-use lib.ListN.{length}
+use Prim.Native.Nat.{ℕ, _-_, _≤_}
+use mathlib.Core.Path.{_≡_, refl, sym}
+use mathlib.Core.Bool.{false}
+use lib.ListN.{length, getD, List·getD-map}
 use native.Mathlib.Omega.{arith}
 use borrow.Author.Needs.{needs}
 use Rattle.codec.specs.Fields.{Fits}
 use Rattle.codec.proofs.FieldLaws.{written-wide}
 use Rattle.codec.proofs.TableLaws.{Put, put-none, put-length, put-more, put-all}
-use Rattle.layout.specs.Formats.{stationFormat}
+use Rattle.network.specs.declared.RequestNumber.{RequestNumber}
+use Rattle.network.specs.View as view
+use Rattle.formats.specs.Formats.{stationFormat}
+use Rattle.formats.specs.Written.{stationBytes}
+use Rattle.layout.specs.declared.memory.Stations.{Stations}
 use Rattle.layout.specs.Places.{layoutLength, stationsAt}
-use Rattle.layout.specs.Entries.{stationAt, stationsFrom}
-use Rattle.layout.specs.Written.{stationBytes}
-use Rattle.layout.proofs.EntryLaws.{station-same}
+use Rattle.layout.specs.Stations.{stationAt, stationsFrom}
 use Rattle.layout.proofs.memory.write_stations.Statement.{statement}
 use Rattle.layout.proofs.memory.write_stations.Tie as tie
+
+-- A station's fields, each of its table, are its entry.
+station-same : (kept : Stations) (i : ℕ)
+    → record { number = getD (kept .numbers) i view.zeroNumber .0; sought = getD (kept .sought) i 0; active = getD (kept .active) i false; serial = getD (kept .serials) i 0 }
+    ≡ stationAt kept i
+station-same kept i =
+    let number = sym (List·getD-map (λ (x : RequestNumber). x .0) (kept .numbers) i view.zeroNumber) in
+    λ j. record { number = number j; sought = getD (kept .sought) i 0; active = getD (kept .active) i false; serial = getD (kept .serials) i 0 }
 
 abbrev Inv-loop : tie.InvT-loop
 Inv-loop out₀ kept i₀ out i = (i ≤ 16) × (layoutLength ≤ length out₀) × Put stationBytes (Fits stationFormat) (stationAt kept) out₀ stationsAt out i

@@ -13,10 +13,10 @@ use Rattle.network.proofs.opening.fresh.Statement.{statement}
 use Rattle.network.proofs.opening.fresh.Tie as tie
 
 abbrev Inv-loop : tie.InvT-loop
-Inv-loop n start s₀ m₀ d₀ t₀ s m d t = (t ≤ n) × Labels s m d × (tabulate 256 (labelOf s m d) ≡ freshLabels start t)
+Inv-loop n start limit s₀ m₀ d₀ t₀ s m d t = (t ≤ n) × Labels s m d × (tabulate 256 (labelOf s m d) ≡ freshLabels start t)
 
 abbrev μ-loop : tie.MeasureT-loop
-μ-loop n start s₀ m₀ d₀ t₀ s m d t = n - t
+μ-loop n start limit s₀ m₀ d₀ t₀ s m d t = n - t
 
 loop-holds : tie.Need-loop-holds Inv-loop μ-loop
 loop-holds c = (omega arith, record { s-length = refl; m-length = refl; d-length = refl }, labels-none _)
@@ -69,7 +69,7 @@ unfolding recordOf packetsOf tabulate freshRecord unassigned
 returns c =
     let loop = c .before .before .loop in
     let e : loop .t ≡ c .before .before .before .args .n = omega arith in
-    view-fresh _ _ _ _ _ _ _ _ (rw e at (loop .inv .2)) (c .empty-row .ensures) refl refl
+    view-fresh _ _ _ _ _ _ _ _ _ (rw e at (loop .inv .2)) (c .empty-row .ensures) refl refl
 
 pub fresh-spec : {M : Type 1} → statement M
 fresh-spec =

@@ -34,9 +34,10 @@ use denote.Triple.Statement.{Contract}
 use denote.Triple.Table.{entered}
 use denote.Triple.Walked.{says, needs, Stays, stay-slice, stay-dropped, walkOf, goes-slice, goes-dropped, Walks, ends-at, walked, walk-meets}
 use denote.Exit.{yes}
+use Rattle.base.proofs.Lending.{local, var}
 use Rattle.network.specs.declared.Packet.{Packet}
 use Rattle.network.proofs.Bounds.{ValidPacket}
-use Rattle.network.proofs.packets.Lent.{packet-vals, packet-typed, size, packet-at, slice-of, Slice, local, var, opens, closes, takes-out, replaces, exits-slice}
+use Rattle.network.proofs.packets.Lent.{packet-vals, packet-typed, size, packet-at, slice-of, Slice, opens, closes, takes-out, replaces, exits-slice}
 use Rattle.network.proofs.Packet as packet
 use Rattle.network.proofs.Packet.Laws as packet′
 use Rattle.network.proofs.packets.append_to.Key.{name as #append-to}

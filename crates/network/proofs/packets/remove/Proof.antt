@@ -35,10 +35,11 @@ use denote.Triple.Table.{entered, cited}
 use denote.Triple.Walked.{says, needs, Stays, stay-dropped, walkOf, goes-dropped, Walks, ends-at, walked, walk-meets}
 use denote.Exit.{yes}
 use Rattle.base.specs.Lists.{removed}
+use Rattle.base.proofs.Lending.{local, var}
 use Rattle.model.specs.Memory.{airLimit}
 use Rattle.network.specs.declared.Packet.{Packet}
 use Rattle.network.proofs.Bounds.{ValidPackets, array-length}
-use Rattle.network.proofs.packets.Lent.{Packets, packets-vals, packets-tells, packets-typed, slice-type, local, var, owns-packets, Remove, calls-remove}
+use Rattle.network.proofs.packets.Lent.{Packets, packets-vals, packets-tells, packets-typed, slice-type, owns-packets, Remove, calls-remove}
 use Rattle.network.proofs.packets.remove_from.Symbol as remove-from-def
 use Rattle.network.proofs.packets.remove_from.Symbol.{name as #remove-from}
 use Rattle.network.proofs.packets.remove_from.Met as remove-from-thm

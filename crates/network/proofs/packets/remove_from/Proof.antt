@@ -40,10 +40,11 @@ use denote.Triple.Walked.{says, needs, Stays, stay-slice, stay-dropped, walkOf, 
 use denote.Exit.{yes}
 use borrow.Author.Tests.{ltb-true, ltb-false}
 use Rattle.base.specs.Lists.{removed}
+use Rattle.base.proofs.Lending.{local, var}
 use Rattle.base.proofs.Loops.{removed-none, removed-more, removed-length}
 use Rattle.network.specs.View.{zeroPacket}
 use Rattle.network.specs.declared.Packet.{Packet}
-use Rattle.network.proofs.packets.Lent.{packet-typed, size, packets-at, packet-at, slice-type, slice-of, Slice, unset, holds, opened, local, var, opens, closes, takes-out, puts-back, replaces, exits-slice}
+use Rattle.network.proofs.packets.Lent.{packet-typed, size, packets-at, packet-at, slice-type, slice-of, Slice, unset, holds, opened, opens, closes, takes-out, puts-back, replaces, exits-slice}
 use Rattle.network.proofs.Packet as packet
 use Rattle.network.proofs.Packet.Laws as packet′
 use Rattle.network.proofs.packets.remove_from.Key.{name as #remove-from}

@@ -36,10 +36,11 @@ use denote.Triple.Table.{entered, cited}
 use denote.Triple.Walked.{says, needs, Stays, stay-dropped, walkOf, goes-dropped, Walks, ends-at, walked, walk-meets}
 use denote.Exit.{yes}
 use Rattle.base.specs.Lists.{removed}
+use Rattle.base.proofs.Lending.{local, var}
 use Rattle.model.specs.Memory.{airLimit}
 use Rattle.network.specs.declared.Packet.{Packet}
 use Rattle.network.proofs.Bounds.{ValidPacket, ValidPackets, array-length}
-use Rattle.network.proofs.packets.Lent.{packet-vals, packet-typed, Packets, packets-vals, packets-tells, packets-typed, slice-type, local, var, owns-packets, Append, Remove, calls-append, calls-remove}
+use Rattle.network.proofs.packets.Lent.{packet-vals, packet-typed, Packets, packets-vals, packets-tells, packets-typed, slice-type, owns-packets, Append, Remove, calls-append, calls-remove}
 use Rattle.network.proofs.Packet as packet
 use Rattle.network.proofs.Packet.Laws as packet′
 use Rattle.network.proofs.packets.append_to.Symbol as append-to-def

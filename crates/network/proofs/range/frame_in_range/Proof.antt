@@ -29,8 +29,19 @@ air-in-range-requires c κs = size-at-most _ (sized (c .before .before))
 
 returns-3 : tie.Need-returns-3
 returns-3 c =
-    let past = c .before .before in
-    simp (sized (past .before), not-was-true _ _ (past .sought-in-range .ensures) (c .before .if2 .left)) (c .air-in-range .ensures)
+    let air = c .before in
+    let tested = air .before in
+    simp (sized (tested .before .before), not-was-true _ _ (tested .before .sought-in-range .ensures) (tested .if2 .left), not-was-false _ _ (air .air-in-range .ensures) (c .if3 .taken))
+
+limit-in-range-requires : tie.Need-limit-in-range-requires
+limit-in-range-requires c κs = search needs
+
+returns-4 : tie.Need-returns-4
+returns-4 c =
+    let air = c .before .before in
+    let tested = air .before in
+    simp (sized (tested .before .before), not-was-true _ _ (tested .before .sought-in-range .ensures) (tested .if2 .left), not-was-true _ _ (air .air-in-range .ensures) (c .before .if3 .left))
+    (c .limit-in-range .ensures)
 
 pub frame-in-range-spec : {M : Type 1} → statement M
 frame-in-range-spec =
@@ -41,4 +52,6 @@ frame-in-range-spec =
     sought-in-range-requires
     returns-2
     air-in-range-requires
-    returns-3)
+    returns-3
+    limit-in-range-requires
+    returns-4)

@@ -14,10 +14,10 @@ use Rattle.network.proofs.range.in_range.Statement.{statement}
 use Rattle.network.proofs.range.in_range.Tie as tie
 
 abbrev Inv-loop : tie.InvT-loop
-Inv-loop memory n count at₀ at = (at ≤ count) × (count ≤ 256) × (allBelow at (placed memory) ≡ true)
+Inv-loop memory n limit count at₀ at = (at ≤ count) × (count ≤ 256) × (allBelow at (placed memory) ≡ true)
 
 abbrev μ-loop : tie.MeasureT-loop
-μ-loop memory n count at₀ at = count - at
+μ-loop memory n limit count at₀ at = count - at
 
 -- The memory and the turn at later places.
 abbrev memory-of : tie.Else1 Inv-loop μ-loop → Memory

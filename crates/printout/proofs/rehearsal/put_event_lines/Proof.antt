@@ -7,15 +7,16 @@ use native.Mathlib.Omega.{arith}
 use borrow.Author.Needs.{needs}
 use Rattle.base.specs.Lists.{tabulate}
 use Rattle.model.specs.Memory.{Network}
-use Rattle.model.specs.Printout.{eventLines}
-use Rattle.printout.specs.Contracts.{PutsAt, Told}
+use Rattle.model.specs.Printout.{lineAt, eventLines}
+use Rattle.telling.specs.Tallies.{Told}
+use Rattle.printout.specs.Contracts.{PutsAt}
 use Rattle.printout.proofs.TextLaws.{puts-none, puts-append}
-use Rattle.printout.proofs.RehearsalLaws.{textFirst, text-more, told-at}
+use Rattle.printout.proofs.RehearsalLaws.{textFirst, text-more}
 use Rattle.printout.proofs.rehearsal.put_event_lines.Statement.{statement}
 use Rattle.printout.proofs.rehearsal.put_event_lines.Tie as tie
 
 abbrev Inv-loop : tie.InvT-loop
-Inv-loop out₀ kinds operands lines end₀ i₀ out end i = (i ≤ length kinds) × ((net : Network) → Told net kinds operands lines → PutsAt out₀ 0 (textFirst net kinds operands i) end out) × (length out ≡ length out₀) × (end ≤ 40 * i)
+Inv-loop out₀ kinds operands lines end₀ i₀ out end i = (i ≤ length kinds) × ((net : Network) → Told lines (length kinds) (lineAt net kinds operands) → PutsAt out₀ 0 (textFirst net kinds operands i) end out) × (length out ≡ length out₀) × (end ≤ 40 * i)
 
 abbrev μ-loop : tie.MeasureT-loop
 μ-loop out₀ kinds operands lines end₀ i₀ out end i = length kinds - i
@@ -70,6 +71,7 @@ loop-less : tie.Need-loop-less Inv-loop μ-loop
 loop-less c = search needs
 
 loop-again : tie.Need-loop-again Inv-loop μ-loop
+unfolding Told
 loop-again c =
     let read = c .before .before .before .before in
     let loop = read .before .before .before .before .before .before .before .before .before .loop in
@@ -77,12 +79,12 @@ loop-again c =
     let put = c .before .before .put-event-line in (
       omega arith,
       (λ net w.
-          let told = told-at net (args .kinds .now) (args .operands .now) (args .lines .now) w (loop .i) (omega arith) in
+          let told = w (loop .i) (omega arith) in
           rw (text-more net (args .kinds .now) (args .operands .now) (loop .i) _ _ _ _
-          (read .before .before .before .answer-of .ensures _ _ _ _ (told .0) (told .1))
-          (read .before .before .sent-of .ensures _ _ _ _ (told .0) (told .1))
-          (read .before .air-of .ensures _ _ _ _ (told .0) (told .1))
-          (read .hops-of .ensures _ _ _ _ (told .0) (told .1)))
+          (read .before .before .before .answer-of .ensures _ _ _ _ (told .1) (told .0))
+          (read .before .before .sent-of .ensures _ _ _ _ (told .1) (told .0))
+          (read .before .air-of .ensures _ _ _ _ (told .1) (told .0))
+          (read .hops-of .ensures _ _ _ _ (told .1) (told .0)))
           (puts-append (loop .inv .1 net w) (put .ensures .0))),
       put .kept .0 ∙ loop .inv .2,
       omega arith,

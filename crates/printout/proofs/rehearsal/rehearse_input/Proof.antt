@@ -7,7 +7,7 @@ use mathlib.Core.List.{List}
 use native.Mathlib.Omega.{arith}
 use borrow.Author.Needs.{needs}
 use Rattle.printout.specs.Printed.{Prints}
-use Rattle.printout.proofs.RehearsalLaws.{routes-loop-free, take-min, prints-whole}
+use Rattle.printout.proofs.RehearsalLaws.{routes-loop-free, tally-fits, take-min, prints-whole}
 use Rattle.printout.proofs.rehearsal.rehearse_input.Statement.{statement}
 use Rattle.printout.proofs.rehearsal.rehearse_input.Tie as tie
 
@@ -29,7 +29,7 @@ returns c =
     let out′ = c .rehearse .last .1 .0 in
     let counted : take (least .least .result) input ≡ take (args .count) input = rw (least .least .ensures) (take-min (args .count) input) in
     let put = subst (λ (b : List ℕ). Prints b out (c .rehearse .result) out′) counted (c .rehearse .ensures .0) in
-    ((λ whole e. prints-whole (length input) (args .count) input whole out (c .rehearse .result) out′ (omega arith) e put), (c .rehearse .ensures .1 .0, λ whole. routes-loop-free whole))
+    ((λ whole e. prints-whole (length input) (args .count) input whole out (c .rehearse .result) out′ (omega arith) e put), (c .rehearse .ensures .1 .0, ((λ whole. routes-loop-free whole _), λ whole. tally-fits whole _)))
 
 pub rehearse-input-spec : {M : Type 1} → statement M
 rehearse-input-spec =

@@ -27,7 +27,7 @@ use Rattle.decisions.specs.Cutting.{leavesBy}
 use Rattle.decisions.specs.Tracing.{tells}
 use Rattle.decisions.proofs.RefusalLaws.{number-left, air-within}
 use Rattle.station.proofs.Laws.{sent-few}
-use Rattle.steps.specs.Lines.{Packs}
+use Rattle.telling.specs.Lines.{Packs}
 use Rattle.steps.specs.Source.{goesOn}
 use Rattle.steps.specs.Happens.{happened, Happens}
 use Rattle.steps.proofs.PacketMoves.{rest-down, rest-one-less, rest-few}
@@ -42,13 +42,13 @@ use Rattle.steps.proofs.running.run.Tie as tie
 
 -- The tracer's walk so far, and what it will tell.
 abbrev Inv-loop2 : tie.InvT-loop2
-Inv-loop2 drains kinds operands lines memory packets count lost i kind a b at n k station t own pair linked active number class limit walk₀ walk =
+Inv-loop2 drains kinds operands lines memory packets count lost i kind a b at n k station t own pair linked active number class most walk₀ walk =
     let net = view (airing memory packets count) in
-    (walk .answer ≡ 0 → (walk .at < n) × (walk .hops ≤ limit)) × (tells net t walk ≡ follow (hopLimit net) 0 net station t)
+    (walk .answer ≡ 0 → (walk .at < n) × (walk .hops ≤ most)) × (tells net t walk ≡ follow (hopLimit net) 0 net station t)
 
 abbrev μ-loop2 : tie.MeasureT-loop2
-μ-loop2 drains kinds operands lines memory packets count lost i kind a b at n k station t own pair linked active number class limit walk₀ walk =
-    if eqb (walk .answer) 0 then suc (limit - walk .hops) else 0
+μ-loop2 drains kinds operands lines memory packets count lost i kind a b at n k station t own pair linked active number class most walk₀ walk =
+    if eqb (walk .answer) 0 then suc (most - walk .hops) else 0
 
 -- The rows looked at so far.
 abbrev Inv-loop3 : tie.InvT-loop3
@@ -60,11 +60,11 @@ abbrev μ-loop3 : tie.MeasureT-loop3
 
 -- The rows cut so far.
 abbrev Inv-loop4 : tie.InvT-loop4
-Inv-loop4 drains kinds operands lines memory₀ packets count lost i kind a b at n k station t own pair linked active number class cut first second edge up links losses u left scope other sent more total here there mine theirs stop turns v₀ memory v =
+Inv-loop4 drains kinds operands lines memory₀ packets count lost i kind a b at n k station t own pair linked active number class cut first second edge up links losses u left scope other sent more total here there mine theirs limit stop turns v₀ memory v =
     (v ≤ turns) × (memory ≡ with-rows memory₀ (memory .rows)) × CutRows cut (memory₀ .rows) v (memory .rows)
 
 abbrev μ-loop4 : tie.MeasureT-loop4
-μ-loop4 drains kinds operands lines memory₀ packets count lost i kind a b at n k station t own pair linked active number class cut first second edge up links losses u left scope other sent more total here there mine theirs stop turns v₀ memory v = turns - v
+μ-loop4 drains kinds operands lines memory₀ packets count lost i kind a b at n k station t own pair linked active number class cut first second edge up links losses u left scope other sent more total here there mine theirs limit stop turns v₀ memory v = turns - v
 
 -- The events so far.
 abbrev Inv-loop : tie.InvT-loop
@@ -398,7 +398,7 @@ cut-numbers : (c : Of tie.Else7) → let at = cut-counted (c .before) in let mem
 cut-numbers c = number-left _ _ _ _ _ _ (c .before .sending-refusal .ensures) (c .if7 .left)
 
 fits : (c : Of tie.Else7) → let at = cut-counted (c .before) in cut-stays at .left-of .result + at .before .copies .result + at .copies2 .result ≤ airLimit
-fits c = air-within _ _ _ _ _ _ (c .before .sending-refusal .ensures) (c .if7 .left)
+fits c = omega (arith, air-within _ _ _ _ _ _ (c .before .sending-refusal .ensures) (c .if7 .left), known (turn (cut-tests (cut-counted (c .before)))) .limit-most)
 
 -- The places of a turn of the cut.
 turned : (removed : Bool) (n : ℕ) → (if removed then n else 0) ≤ n
@@ -532,7 +532,7 @@ change-number : (c : Of tie.Else9) → let at = change-counted (c .before) in
 change-number c = number-left _ _ _ _ _ _ (c .before .sending-refusal2 .ensures) (c .if9 .left) .0
 
 fits-two : (c : Of tie.Else9) → let at = change-counted (c .before) in at .before .stay .result + at .copies3 .result ≤ airLimit
-fits-two c = air-within _ _ _ _ _ _ (c .before .sending-refusal2 .ensures) (c .if9 .left)
+fits-two c = omega (arith, air-within _ _ _ _ _ _ (c .before .sending-refusal2 .ensures) (c .if9 .left), known (turn (change-tests (change-counted (c .before)))) .limit-most)
 
 -- They end with the packets that `exchange` or `transmit` gave.
 module _ (c : Of tie.After-line7) (packets : List Packet) where

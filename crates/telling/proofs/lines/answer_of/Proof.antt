@@ -1,0 +1,15 @@
+-- `lines::answer_of` meets its contract.
+use borrow.Author.Needs.{needs}
+use Rattle.telling.specs.Lines.{packed}
+use Rattle.telling.proofs.lines.answer_of.Statement.{statement}
+use Rattle.telling.proofs.lines.answer_of.Tie as tie
+
+cast-result : tie.Need-cast-result
+cast-result c = search needs
+
+returns : tie.Need-returns
+unfolding packed
+returns c = search needs
+
+pub answer-of-spec : {M : Type 1} → statement M
+answer-of-spec = tie.close (tie.spec cast-result returns)
