@@ -7,9 +7,9 @@ use lib.ListN.{length, drop}
 use native.Mathlib.Omega.{arith}
 use Rattle.base.specs.Results.{Result, refused, accepted, isRefusal}
 use Rattle.base.proofs.Booleans.{clash}
-use Rattle.base.proofs.Results.{refuse-holds, refuse-passes}
+use Rattle.base.proofs.Results.{refuse-holds, refuse-passes, not-accepted, Satisfies, refuses, accepts}
 use Rattle.codec.specs.Bytes.{over}
-use Rattle.model.specs.Memory.{Network, memoryInRange}
+use Rattle.model.specs.Memory.{Network, airLimit, memoryInRange}
 use Rattle.model.specs.Calls.{Call, Effect, step}
 use Rattle.model.proofs.Range.{Invariant, in-range-invariant}
 use Rattle.model.proofs.Refusals.{OnMemory, out-of-range}
@@ -25,7 +25,7 @@ use Rattle.layout.proofs.ReadBack.{stored-back}
 use Rattle.steps.specs.declared.Done.{Done}
 use Rattle.steps.specs.Called.{Called}
 use Rattle.console.specs.Packed.{packed, answerOf, countOf}
-use Rattle.console.specs.Console.{calling, Stores, Ends}
+use Rattle.console.specs.Console.{calling, Stores, Leaves, tellingCall, Ends}
 use Rattle.console.specs.Contracts.{Finished}
 
 -- A call by how it begins.
@@ -59,37 +59,60 @@ module _ (net : Network) (fits : NetworkFits net) (ranged : memoryInRange net �
 
   pub written-stores : Stores bytes′ net
   unfolding over
-  written-stores = record { network = stored-back net fits bytes′ (drop (length (networkBytes net)) bytes) e (inv .formed .high) (inv .room); in-range = ranged }
+  written-stores =
+      let room : length (net .air) ≤ airLimit = omega (arith, inv .room, inv .formed .capped) in
+      record { network = stored-back net fits bytes′ (drop (length (networkBytes net)) bytes) e (inv .formed .high) room; in-range = ranged }
 
--- How a call ends, by what it gave.
+-- The answer tells how it ended.
+abbrev pub Tells : Result Effect → Type 0
+Tells z = Satisfies (λ number. isRefusal number ≡ true) (λ (e : Effect). isRefusal (e .answer) ≡ false) z
+
+pub call-tells : (c : Call) (net : Network) → Tells (step c net)
+call-tells c net = go (step c net) refl
+  where
+    go : (z : Result Effect) → step c net ≡ z → Tells z
+    go (refused number) e = refuses (refused-tells c net number e)
+    go (accepted x) e = accepts (accepted-tells c net x e)
+
+-- How it ends, by what it gave: a call, or a run of events.
+module _ (bytes : List ℕ) (memory : Memory) (d : Done) where
+  -- What is accepted on memory in range alone, and was not turned down, had bytes enough.
+  pub called-long : (z : Result Effect) → Called memory z d → Tells z → ((e : Effect) → z ≡ accepted e → memoryInRange (storedNetwork bytes) ≡ true)
+      → isRefusal (d .answer) ≡ false → layoutLength ≤ length bytes
+  unfolding Called
+  called-long (refused number) k (refuses t) ranged h = clash t (rw (ap (λ (x : Done). x .answer) k) at h)
+  called-long (accepted e) k t ranged h = memory-long bytes (stored-in-range bytes (ranged e refl))
+
+  pub called-told : (z : Result Effect) → Called memory z d → packed (d .answer) (d .sent) ≡ tellingCall z
+  unfolding Called tellingCall
+  called-told (refused number) k = ap (λ (x : Done). packed (x .answer) (x .sent)) k
+  called-told (accepted e) k = ap (λ (x : Effect). packed (x .answer) (x .sent)) (k .0)
+
+  pub called-leaves : (z : Result Effect) → Called memory z d → Tells z → {r : ℕ} {bytes′ : List ℕ} → Finished d bytes r bytes′ → Leaves bytes z bytes′
+  unfolding Called Leaves
+  called-leaves (refused number) k (refuses t) f = f .unchanged (rw (ap (λ (x : Done). x .answer) k) t)
+  called-leaves (accepted e) k (accepts t) {r} {bytes′} f =
+      let net : view (d .memory) ≡ e .net = ap (λ (x : Effect). x .net) (k .0) in
+      let (put, fits) = f .written (ap (λ (x : Effect). isRefusal (x .answer)) (k .0) ∙ t) in
+      (put ∙ rw net, subst (Stores bytes′) net (written-stores (view (d .memory)) fits (k .1) bytes bytes′ put))
+
+-- A call.
 module _ (c : Call) (bytes : List ℕ) (memory : Memory) (d : Done) (called : Called memory (step c (view memory)) d) where
-  -- A call on memory that was not turned down had bytes enough.
   pub call-long : OnMemory c → view memory ≡ storedNetwork bytes → isRefusal (d .answer) ≡ false → layoutLength ≤ length bytes
-  unfolding Called isRefusal
-  call-long on same h = go (memoryInRange (view memory)) refl
+  call-long on same h = called-long bytes memory d (step c (view memory)) called (call-tells c (view memory)) ranged h
     where
-      go : (b : Bool) → memoryInRange (view memory) ≡ b → layoutLength ≤ length bytes
-      go true e = memory-long bytes (stored-in-range bytes (rw same at e))
-      go false e =
-          let told : d .answer ≡ 1 = ap (λ (x : Done). x .answer) (subst (λ z. Called memory z d) (out-of-range c (view memory) on e) called) in
-          clash (rw told) h
+      go : (e : Effect) → step c (view memory) ≡ accepted e → (b : Bool) → memoryInRange (view memory) ≡ b → b ≡ true
+      go e q true k = refl
+      go e q false k = not-accepted (sym (out-of-range c (view memory) on k) ∙ q)
+
+      ranged : (e : Effect) → step c (view memory) ≡ accepted e → memoryInRange (storedNetwork bytes) ≡ true
+      ranged e q = ap memoryInRange (sym same) ∙ go e q (memoryInRange (view memory)) refl
 
   pub ends-finished : calling c bytes ≡ step c (view memory) → (r : ℕ) (bytes′ : List ℕ) → Finished d bytes r bytes′ → Ends bytes (calling c bytes) r bytes′
-  unfolding Ends Called
-  ends-finished same r bytes′ f = rw same (go (step c (view memory)) refl called)
-    where
-      go : (z : Result Effect) → step c (view memory) ≡ z → Called memory z d → Ends bytes z r bytes′
-      go (refused number) e k =
-          let answer : d .answer ≡ number = ap (λ (x : Done). x .answer) k in
-          let sent : d .sent ≡ 0 = ap (λ (x : Done). x .sent) k in
-          (f .result ∙ rw (answer, sent), f .unchanged (rw answer (refused-tells c (view memory) number e)))
-      go (accepted x) e k =
-          let net : view (d .memory) ≡ x .net = ap (λ (y : Effect). y .net) (k .0) in
-          let answer : d .answer ≡ x .answer = ap (λ (y : Effect). y .answer) (k .0) in
-          let sent : d .sent ≡ x .sent = ap (λ (y : Effect). y .sent) (k .0) in
-          let told : isRefusal (d .answer) ≡ false = rw answer (accepted-tells c (view memory) x e) in
-          let put = f .written told in
-          (f .result ∙ rw (answer, sent), put .0 ∙ rw net, subst (λ z. Stores bytes′ z) net (written-stores (view (d .memory)) (put .1) (k .1) bytes bytes′ (put .0)))
+  unfolding Ends
+  ends-finished same r bytes′ f =
+      let z = step c (view memory) in
+      rw same (f .result ∙ called-told bytes memory d z called, called-leaves bytes memory d z called (call-tells c (view memory)) f)
 
 -- The two halves of a result.
 pub unpacked : (answer count : ℕ) → answer < 4_294_967_296 → (answerOf (packed answer count) ≡ answer) × (countOf (packed answer count) ≡ count)

@@ -8,10 +8,8 @@ use lib.ListN.{length}
 use native.Mathlib.Omega.{arith}
 use Rattle.codec.specs.Bytes.{over}
 use Rattle.model.specs.Memory.{Network, memoryInRange}
-use Rattle.model.specs.Calls.{trace}
-use Rattle.model.specs.Walks.{WalksEnd, Reached, LoopFree}
-use Rattle.model.proofs.Walking.{loop-free}
 use Rattle.draining.specs.Draining as draining
+use Rattle.draining.specs.Draining.{drain}
 use Rattle.draining.proofs.Ending.{limit-largest}
 use Rattle.network.specs.declared.Memory.{Memory}
 use Rattle.network.specs.View.{view}
@@ -27,7 +25,7 @@ use Rattle.console.specs.Showing.{outOfRange}
 use Rattle.console.specs.Draining.{DrainsBy, DrainsBytes}
 use Rattle.console.specs.Made.{MadeBytes}
 use Rattle.console.proofs.ConsoleLaws.{written-stores}
-use Rattle.console.proofs.MadeLaws.{made-reaches}
+use Rattle.console.proofs.MadeLaws.{AllWalksEnd, left-loop-free}
 
 -- The counts fit their places, and are read back.
 pub drained-few : {memory : Memory} {d : Drained} → DrainedTo memory d → (d .deliveries < 16_777_216) × (d .losses < 16_777_216)
@@ -55,18 +53,12 @@ module _ (memory : Memory) (d : Drained) where
 -- What the contract says.
 module _ (bytes : List ℕ) where
   abbrev Claims : (r : ℕ) → (bytes′ : List ℕ) → Type 0
-  Claims r bytes′ =
-      DrainsBytes bytes r bytes′
-      × (MadeBytes bytes → (a t : ℕ) → a < storedNetwork bytes′ .n → t < storedNetwork bytes′ .n → a ≢ t → WalksEnd (storedNetwork bytes′) a t (trace (storedNetwork bytes′) a t))
-
-  reaches : (b : Bool) (r : ℕ) (bytes′ : List ℕ) → DrainsBy b bytes r bytes′ → Reached (storedNetwork bytes) → Reached (storedNetwork bytes′)
-  reaches true r bytes′ (told, same) h = subst (λ x. Reached (storedNetwork x)) (sym same) h
-  reaches false r bytes′ d h = subst Reached (sym (d .stores .network)) (d .drained .reached h)
+  Claims r bytes′ = DrainsBytes bytes r bytes′ × (MadeBytes bytes → AllWalksEnd (storedNetwork bytes′))
 
   claims : (b : Bool) (r : ℕ) (bytes′ : List ℕ) → outOfRange bytes ≡ b → DrainsBy b bytes r bytes′ → Claims r bytes′
-  unfolding LoopFree
   claims b r bytes′ e d =
-      (subst (λ x. DrainsBy x bytes r bytes′) (sym e) d, λ made a t ha ht apart. loop-free (storedNetwork bytes′) (reaches b r bytes′ d (made-reaches bytes made)) a t ha ht apart)
+      let drains = subst (λ x. DrainsBy x bytes r bytes′) (sym e) d in
+      (drains, λ made. left-loop-free bytes made drain r bytes′ drains)
 
   module _ (memory : Memory) (same : view memory ≡ storedNetwork bytes) (d : Drained) (ends : DrainEnds (memoryInRange (view memory)) memory d) where
     out-is : outOfRange bytes ≡ not (memoryInRange (view memory))

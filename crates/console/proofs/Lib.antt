@@ -2,6 +2,7 @@ pub mod ConsoleLaws
 pub mod LabelResults
 pub mod MadeLaws
 pub mod DrainLaws
+pub mod RunLaws
 pub mod ScriptResults
 pub mod ShowLaws
 pub mod ShownLaws

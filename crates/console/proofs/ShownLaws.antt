@@ -21,12 +21,12 @@ use Rattle.formats.specs.Formats.{labelFormat, labelWide, rowWide, recordFormat
 use Rattle.formats.specs.Stored.{storedLabel, storedRow, storedRecord, storedStation, storedLink, storedPacket}
 use Rattle.formats.specs.Written.{labelBytes, rowBytes, recordBytes, stationBytes, packetBytes}
 use Rattle.formats.proofs.EntryLaws.{row-wide, packet-wide}
-use Rattle.layout.specs.Places.{sizeAt, stationsAt, linksAt, labelsAt, rowsAt, recordsAt, airAt, packetsAt}
+use Rattle.layout.specs.Places.{sizeAt, stationsAt, linksAt, labelsAt, rowsAt, recordsAt, airAt, packetsAt, limitAt}
 use Rattle.layout.specs.Stored.{networkIn}
 use Rattle.layout.specs.Meaning.{storedNetwork}
 use Rattle.layout.proofs.MeaningLaws.{Readable}
 use Rattle.layout.proofs.StoredLaws.{label-at, row-at, record-at, station-at, link-at, packet-at, air-count}
-use Rattle.console.specs.Showing.{showSize, showAir, showLink, showLabel, showRow, showRecord, showStation, showPacket, showPart}
+use Rattle.console.specs.Showing.{showSize, showAir, showLimit, showLink, showLabel, showRow, showRecord, showStation, showPacket, showPart}
 use Rattle.console.specs.Parts.{partRefusal, partWide, partIn}
 
 -- The tests for 2, on the bytes: no station, not both stations, no pair.
@@ -61,6 +61,10 @@ module _ (bytes : List ℕ) (k : Readable bytes) where
   pub show-air : showAir (storedNetwork bytes) ≡ accepted (byteAt bytes airAt)
   unfolding showAir
   show-air = rw (k .is, air-count bytes)
+
+  pub show-limit : showLimit (storedNetwork bytes) ≡ accepted (byteAt bytes limitAt)
+  unfolding showLimit networkIn
+  show-limit = rw (k .is)
 
   -- A test on n.
   size-is : (test : ℕ → Bool) → test (byteAt bytes sizeAt) ≡ false → test (networkIn bytes .n) ≡ false

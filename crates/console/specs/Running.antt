@@ -1,7 +1,6 @@
 -- Runs of events and rehearsals at the console (02, F-5).
-use Prim.Native.Nat.{ℕ, _<_}
+use Prim.Native.Nat.{ℕ}
 use mathlib.Core.Path.{_≡_}
-use mathlib.Core.Logic.{_≢_}
 use mathlib.Core.List.{List, []}
 use lib.ListN.{length}
 use Rattle.base.specs.Results.{Result, refused, accepted, mapped}

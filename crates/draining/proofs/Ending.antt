@@ -10,7 +10,7 @@ use native.Mathlib.Omega.{arith}
 use borrow.Author.Tests.{lt-leb}
 use Rattle.base.specs.Results.{Result, refused, accepted}
 use Rattle.base.proofs.Results.{refuse-holds, refuse-passes, not-accepted, same-accepted, same-refused, not-turned-down}
-use Rattle.model.specs.Memory.{Body, request, reply, error, other, Packet, Network, packetAt, airLimit, setAir}
+use Rattle.model.specs.Memory.{Body, request, reply, error, other, Packet, Network, packetAt, setAir}
 use Rattle.model.specs.Calls.{Deliver, Lose, Effect, effect, usedUp, limited, notPacket, removePacket, deliver, step}
 use Rattle.model.specs.Walks.{Reached}
 use Rattle.model.proofs.Range.{Invariant, invariant-in-range, in-range-invariant}

@@ -13,7 +13,7 @@ use Rattle.base.proofs.Booleans.{both, neither, choose}
 use Rattle.base.proofs.Loops.{below-length}
 use Rattle.base.specs.Numbers.{maxU32}
 use Rattle.base.specs.Results.{refused, accepted, refuse_when_otherwise_}
-use Rattle.base.proofs.Results.{refuse-holds, refuse-passes}
+use Rattle.base.proofs.Results.{refuse-holds}
 use Rattle.model.specs.Memory.{Packet, Network, linkUp, requestNumberAt, isActive, packetAt, setLink, setRow, setActive}
 use Rattle.model.specs.Memory.{fresh, airLimit, sizeInRange, memoryInRange}
 use Rattle.model.specs.Calls.{Call, Open, Up, Down, Solicit, GiveUp, Expire, Deliver, Lose, Duplicate}

@@ -48,7 +48,7 @@ drain-leaves true memory r d = (callsOf (d .turns), d .drained .calls)
 drain-leaves false memory r e = ([], ap (λ (x : Drained). view (x .memory)) e)
 
 -- What a run of events leaves, the calls among them leave, or none.
-run-leaves : (net : Network) (kinds operands : List ℕ) (room : ℕ) → (calls : List Call) × (after net (running net kinds operands room) ≡ run calls net)
+pub run-leaves : (net : Network) (kinds operands : List ℕ) (room : ℕ) → (calls : List Call) × (after net (running net kinds operands room) ≡ run calls net)
 unfolding run after
 run-leaves net kinds operands room = go (running net kinds operands room) refl
   where

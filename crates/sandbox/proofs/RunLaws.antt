@@ -1,6 +1,6 @@
 -- A run of events, as the code makes it.
 use Prim.Native.Nat.{ℕ, _≤_, _<_}
-use mathlib.Core.Path.{_≡_, sym, ap, subst, _∙_}
+use mathlib.Core.Path.{_≡_, refl, sym, ap, subst, _∙_}
 use mathlib.Core.Logic.{_≢_}
 use mathlib.Core.Bool.{true, false, not}
 use mathlib.Core.List.{List, []}
@@ -10,19 +10,19 @@ use lib.Dec.{ltb}
 use native.Mathlib.Omega.{arith}
 use borrow.Author.Tests.{lt-ltb, le-ltb}
 use Rattle.base.specs.Lists.{tabulate}
-use Rattle.base.specs.Results.{refused, accepted, refuse_when_otherwise_, mapped}
+use Rattle.base.specs.Results.{Result, refused, accepted, refuse_when_otherwise_, mapped}
 use Rattle.base.proofs.Loops.{tabulate-length, map-tabulate}
-use Rattle.base.proofs.Results.{refuse-holds, refuse-passes}
+use Rattle.base.proofs.Results.{refuse-holds, refuse-passes, not-turned-down}
 use Rattle.codec.specs.Bytes.{putInto}
 use Rattle.codec.proofs.ByteLaws.{sets-over}
 use Rattle.model.specs.Memory.{Network, Sized, memoryInRange}
-use Rattle.model.specs.Calls.{effect, run, trace}
+use Rattle.model.specs.Calls.{Effect, effect, trace}
 use Rattle.model.specs.Walks.{Reached}
-use Rattle.model.specs.Events.{eventAt, callsIn, notEvents, allEvents, afterEvents, running}
+use Rattle.model.specs.Events.{eventAt, callsIn, eventLimit, notEvents, allEvents, afterEvents, running}
 use Rattle.model.specs.Printout.{lineAt, eventLines}
 use Rattle.model.specs.Tally as model
 use Rattle.model.specs.Tally.{tallyOf, HighestFits, LimitFromHighest}
-use Rattle.model.proofs.EventLaws.{reached-more}
+use Rattle.model.proofs.EventLaws.{reached-more, events-tell}
 use Rattle.model.proofs.Tallies.{limit-from-highest}
 use Rattle.telling.specs.declared.tally.Tally.{Tally}
 use Rattle.telling.specs.Tallies.{tallyIn}
@@ -101,3 +101,14 @@ module _ (memory : Memory) (kinds operands lines : List ℕ) where
               ),
             ),
           )
+
+-- The tally counts at most 4,096 events, and none where the run is turned down.
+pub tally-few : (net : Network) (kinds operands : List ℕ) (room : ℕ) → tallyOfRun net kinds operands room .calls ≤ eventLimit
+unfolding tallyOfRun linesOf mapped tallyOf eventLines running
+tally-few net kinds operands room = go (running net kinds operands room) refl
+  where
+    go : (z : Result Effect) → running net kinds operands room ≡ z → tallyOf (linesOf (mapped (λ (e : Effect). eventLines net kinds operands) z)) .calls ≤ eventLimit
+    go (refused number) h = omega arith
+    go (accepted e) h =
+        let w = events-tell (length kinds) (length operands) (not-turned-down 10 _ _ e h .0) in
+        omega (arith, w .0, tabulate-length (length kinds) (lineAt net kinds operands))

@@ -20,8 +20,7 @@ unfolding told ToldFit Told
 told-lines net kinds operands lines lines′ h fit e j l =
     let numbers = tabulate (length kinds) (told net kinds operands) in
     let long : length numbers ≡ length kinds = tabulate-length (length kinds) (told net kinds operands) in
-    let first : take (length kinds) lines′ ≡ numbers = over-first numbers lines lines′ (length kinds) (e ∙ sets-over lines numbers (omega (arith, h, long))) (sym long) .1 in
-    (
+    let first : take (length kinds) lines′ ≡ numbers = over-first numbers lines lines′ (length kinds) (e ∙ sets-over lines numbers (omega (arith, h, long))) (sym long) .1 in (
       sym (getD-take (length kinds) lines′ j 0 l) ∙ ap (λ (z : List ℕ). getD z j 0) first ∙ tabulate-at (length kinds) (told net kinds operands) j 0 l,
       fit j l,
     )

@@ -6,11 +6,11 @@ ghost use Rattle.model.specs.Events.{eventOf};
 ghost use Rattle.network.specs.View.{view};
 ghost use Rattle.steps.specs.Happens.{Happens};
 use crate::Happened;
+use crate::running::run;
+use network::Memory;
 use telling::lines::answer_of;
 use telling::lines::hops_of;
 use telling::lines::sent_of;
-use crate::running::run;
-use network::Memory;
 
 // An event, on memory in range.
 pub fn event_in_range(memory: Memory, kind: u8, a: u8, b: u8) -> Happened

@@ -4,10 +4,10 @@ ghost use mathlib.Core.Bool.{false};
 ghost use Prim.Native.Nat.{_+_, _*_, _<_};
 ghost use lib.ListN.{length};
 ghost use Rattle.steps.specs.Source.{Listed, Next, goesOn, linePlace};
-use telling::lines::answer_of;
 use draining::Event;
 use draining::packet_left;
 use draining::turn_after;
+use telling::lines::answer_of;
 
 // Event i of a list.
 fn event_at(kinds: &[u8], operands: &[u8], i: usize) -> Event

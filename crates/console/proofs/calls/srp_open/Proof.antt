@@ -4,16 +4,16 @@ use borrow.Author.Needs.{needs}
 use borrow.Author.Tests.{lt-ltb, le-ltb}
 use Rattle.model.specs.Calls.{Open, step}
 use Rattle.layout.specs.Meaning.{tooShort}
-use Rattle.console.specs.Console.{Ends}
+use Rattle.console.specs.Console.{Leaves, tellingCall, Ends}
 use Rattle.console.proofs.ConsoleLaws.{calling-short, calling-long, ends-finished}
 use Rattle.console.proofs.calls.srp_open.Statement.{statement}
 use Rattle.console.proofs.calls.srp_open.Tie as tie
 
 returns : tie.Need-returns
-unfolding Ends tooShort
+unfolding Ends Leaves tellingCall tooShort
 returns c =
     let args = c .before .before .args in
-    rw (calling-short (Open (args .n) (args .start)) (args .memory .now) (lt-ltb _ _ (c .if1 .taken))) (refl, refl)
+    rw (calling-short (Open (args .n) (args .start) (args .limit)) (args .memory .now) (lt-ltb _ _ (c .if1 .taken))) (refl, refl)
 
 fresh-requires : tie.Need-fresh-requires
 fresh-requires c κs = search needs
@@ -33,7 +33,7 @@ returns-2 c =
     let call = c .before .before .before in
     let past = call .before .before .before in
     let args = past .before .before .args in
-    let it = Open (args .n) (args .start) in
+    let it = Open (args .n) (args .start) (args .limit) in
     ends-finished it (args .memory .now) _ _ (call .«open» .ensures) (calling-long it (args .memory .now) (le-ltb _ _ (past .if1 .left))) _ _ (c .before .before .finish .ensures)
 
 pub srp-open-spec : {M : Type 1} → statement M

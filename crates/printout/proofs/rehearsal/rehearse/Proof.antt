@@ -14,8 +14,7 @@ rehearse-under-requires c κs = search needs
 
 returns : tie.Need-returns
 returns c =
-    let done = c .before .rehearse-under in
-    (
+    let done = c .before .rehearse-under in (
       prints-accepted _ _ _ _ (done .ensures .0) (search needs) (c .if1 .taken),
       (counted _ _ (omega (arith, done .ensures .1 .1 .1)), (routes-loop-free _ _, tally-fits _ _)),
     )
@@ -25,8 +24,7 @@ put-refusal-requires c κs = search needs
 
 returns-2 : tie.Need-returns-2
 returns-2 c =
-    let done = c .before .before .before .before .rehearse-under in
-    (
+    let done = c .before .before .before .before .rehearse-under in (
       prints-refused _ _ _ _ (done .ensures .0) (search needs) (c .before .before .before .if1 .left) (c .put-refusal .ensures .0) (search needs),
       (puts-counted (c .put-refusal .ensures .0) (search needs), (routes-loop-free _ _, tally-fits _ _)),
     )

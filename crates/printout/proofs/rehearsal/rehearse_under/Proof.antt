@@ -120,8 +120,7 @@ returns-4 c =
     let args = start read .args in
     let s = inArrays (read .read .result) (read .read .last .1 .0) (read .read .last .1 .1 .0) in
     let made = put .put-rehearsal .ensures in
-    let ends = rehearsing-accepted (args .script .now) (args .limit) (length (args .out .now)) s (past else1 .reads) (within else2) (omega arith) in
-    (
+    let ends = rehearsing-accepted (args .script .now) (args .limit) (length (args .out .now)) s (past else1 .reads) (within else2) (omega arith) in (
       rehearses-accepted (args .script .now) (args .limit) (args .out .now) (rehearsalOf (args .limit) s) ends (made .0) (omega arith) (made .1 .0 .0) (made .1 .0 .1),
       (routes-loop-free (args .script .now) (args .limit), (tally-fits (args .script .now) (args .limit), made .1 .1)),
     )

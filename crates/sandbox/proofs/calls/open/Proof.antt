@@ -1,6 +1,6 @@
 -- `calls::open` meets its contract: refused with 1 or 14, or fresh memory.
 use Prim.Native.Nat.{_≤_}
-use mathlib.Core.Path.{_≡_, sym, ap, _∙_}
+use mathlib.Core.Path.{sym, ap, _∙_}
 use native.Mathlib.Omega.{arith}
 use borrow.Author.Needs.{needs}
 use Rattle.base.proofs.Booleans.{cases}

@@ -1,6 +1,9 @@
--- `tally::noted` meets its contract: of the two counts the test finds the higher.
-use native.Mathlib.Nat.{le-of-lt, max-eq-left, max-eq-right}
+-- `tally::noted` meets its contract: the greater of the two counts, by how the test came out.
+use Prim.Native.Nat.{ℕ, _+_, max}
+use mathlib.Core.Path.{_≡_, ap}
+use native.Mathlib.Omega.{arith}
 use borrow.Author.Needs.{needs}
+use Rattle.telling.specs.declared.tally.Tally.{Tally}
 use Rattle.telling.specs.Tallies.{withEvent}
 use Rattle.telling.proofs.tally.noted.Statement.{statement}
 use Rattle.telling.proofs.tally.noted.Tie as tie
@@ -8,13 +11,16 @@ use Rattle.telling.proofs.tally.noted.Tie as tie
 add-calls : tie.Need-add-calls
 add-calls c = search needs
 
-returns : tie.Need-returns
+-- The tally with this count, where it is the greater one.
+counted : (t : Tally) (air highest : ℕ) → highest ≡ max (t .highest) air → record { calls = t .calls + 1; highest = highest } ≡ withEvent t air
 unfolding withEvent
-returns c = rw (max-eq-right (le-of-lt (c .if1 .taken)))
+counted t air highest e = ap (λ (k : ℕ). record { calls = t .calls + 1; highest = k }) e
+
+returns : tie.Need-returns
+returns c = counted _ _ _ (omega (arith, c .if1 .taken))
 
 returns-2 : tie.Need-returns-2
-unfolding withEvent
-returns-2 c = rw (max-eq-left (c .if1 .left))
+returns-2 c = counted _ _ _ (omega (arith, c .if1 .left))
 
 pub noted-spec : {M : Type 1} → statement M
 noted-spec = tie.close (tie.spec add-calls returns returns-2)
