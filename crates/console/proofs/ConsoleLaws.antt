@@ -67,7 +67,7 @@ module _ (net : Network) (fits : NetworkFits net) (ranged : memoryInRange net �
 abbrev pub Tells : Result Effect → Type 0
 Tells z = Satisfies (λ number. isRefusal number ≡ true) (λ (e : Effect). isRefusal (e .answer) ≡ false) z
 
-pub call-tells : (c : Call) (net : Network) → Tells (step c net)
+call-tells : (c : Call) (net : Network) → Tells (step c net)
 call-tells c net = go (step c net) refl
   where
     go : (z : Result Effect) → step c net ≡ z → Tells z
@@ -83,7 +83,7 @@ module _ (bytes : List ℕ) (memory : Memory) (d : Done) where
   called-long (refused number) k (refuses t) ranged h = clash t (rw (ap (λ (x : Done). x .answer) k) at h)
   called-long (accepted e) k t ranged h = memory-long bytes (stored-in-range bytes (ranged e refl))
 
-  pub called-told : (z : Result Effect) → Called memory z d → packed (d .answer) (d .sent) ≡ tellingCall z
+  called-told : (z : Result Effect) → Called memory z d → packed (d .answer) (d .sent) ≡ tellingCall z
   unfolding Called tellingCall
   called-told (refused number) k = ap (λ (x : Done). packed (x .answer) (x .sent)) k
   called-told (accepted e) k = ap (λ (x : Effect). packed (x .answer) (x .sent)) (k .0)

@@ -3,6 +3,7 @@ pub mod LabelResults
 pub mod MadeLaws
 pub mod DrainLaws
 pub mod RunLaws
+pub mod RehearseLaws
 pub mod ScriptResults
 pub mod ShowLaws
 pub mod ShownLaws
