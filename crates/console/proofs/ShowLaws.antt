@@ -1,7 +1,7 @@
 -- Laws of what a console shows: how it ends, and what is known of bytes in range.
 use Prim.Native.Nat.{ℕ, _≤_, _<_}
-use mathlib.Core.Path.{_≡_, refl, _∙_}
-use mathlib.Core.Bool.{true, false}
+use mathlib.Core.Path.{_≡_, refl, sym, ap, _∙_}
+use mathlib.Core.Bool.{Bool, true, false}
 use mathlib.Core.List.{List}
 use lib.ListN.{length}
 use lib.Seq.{sets}
@@ -43,6 +43,15 @@ module _ (bytes : List ℕ) (show : Network → Result ℕ) where
   pub tells-value : (value r : ℕ) → outOfRange bytes ≡ false → show (storedNetwork bytes) ≡ accepted value → r ≡ packed 0 value → r ≡ telling (showing bytes show)
   unfolding telling
   tells-value value r h e q = q ∙ rw (showing-net bytes show h, e)
+
+-- What shows the same of bytes in range tells the same.
+pub tells-same : (bytes : List ℕ) (show show′ : Network → Result ℕ) → (Readable bytes → show (storedNetwork bytes) ≡ show′ (storedNetwork bytes))
+    → telling (showing bytes show) ≡ telling (showing bytes show′)
+tells-same bytes show show′ same = go (outOfRange bytes) refl
+  where
+    go : (t : Bool) → outOfRange bytes ≡ t → telling (showing bytes show) ≡ telling (showing bytes show′)
+    go true e = sym (tells-1 bytes show e) ∙ tells-1 bytes show′ e
+    go false e = ap telling (showing-net bytes show e ∙ same (range-readable bytes e) ∙ sym (showing-net bytes show′ e))
 
 -- Bytes put into a lent array.
 module _ (bytes : List ℕ) (show : Network → Result (List ℕ)) (out : List ℕ) where

@@ -8,6 +8,7 @@ use lib.Dec.{ltb, eqb}
 use mir.Val.{boolByte}
 use Rattle.base.specs.Choice.{if_then_else_}
 use Rattle.base.specs.Results.{Result, accepted, refuse_when_otherwise_}
+use Rattle.codec.specs.Bytes.{byteAt}
 use Rattle.model.specs.Memory.{Network, labelAt, rowAt, recordAt, linkUp, packetAt, memoryInRange}
 use Rattle.model.specs.Calls.{notStation, notPair, notPacket}
 use Rattle.formats.specs.Formats.{stationOf}
@@ -28,6 +29,10 @@ unfoldable pub shownIn : (room : ℕ) → List ℕ → Result (List ℕ)
 shownIn room shown =
     refuse 12 when ltb room (length shown) otherwise
     accepted shown
+
+-- A byte, whatever the network.
+abbrev pub showByte : List ℕ → (at : ℕ) → Network → Result ℕ
+showByte bytes at net = accepted (byteAt bytes at)
 
 unfoldable pub showSize : Network → Result ℕ
 showSize net = accepted (net .n)

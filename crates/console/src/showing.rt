@@ -9,7 +9,7 @@ ghost use Rattle.codec.specs.Bytes.{byteAt, Puts};
 ghost use Rattle.model.specs.Memory.{airLimit};
 ghost use Rattle.layout.specs.Places.{layoutLength, sizeAt, airAt};
 ghost use Rattle.console.specs.Packed.{telling};
-ghost use Rattle.console.specs.Showing.{showing, shownIn, showSize, showAir, showLimit, showLink, showLabel, showRow, showRecord, showStation, showPacket, showPart};
+ghost use Rattle.console.specs.Showing.{showing, shownIn, showByte, showSize, showAir, showLimit, showLink, showLabel, showRow, showRecord, showStation, showPacket, showPart};
 ghost use Rattle.console.specs.Parts.{partRefusal, partWide, partIn};
 use crate::out_of_range;
 use crate::packed;
@@ -43,15 +43,23 @@ use network::places::pair_place;
 use validation::not_pair;
 use validation::not_station;
 
+// A byte of the layout.
+fn show_byte(memory: &[u8], at: usize) -> u64
+    requires { ⌜ at < layoutLength ⌝ }
+    ensures { λ r. ⌜ r ≡ telling (showing (now (memory .entry)) (showByte (now (memory .entry)) at)) ⌝ }
+{
+    if out_of_range(memory) {
+        return 1;
+    }
+    packed(0, memory[at] as u32)
+}
+
 // The number of stations.
 #[no_mangle]
 pub extern "C" fn srp_size(memory: &[u8]) -> u64
     ensures { λ r. ⌜ r ≡ telling (showing (now (memory .entry)) showSize) ⌝ }
 {
-    if out_of_range(memory) {
-        return 1;
-    }
-    packed(0, memory[SIZE_AT] as u32)
+    show_byte(memory, SIZE_AT)
 }
 
 // The number of packets in the air.
@@ -59,10 +67,7 @@ pub extern "C" fn srp_size(memory: &[u8]) -> u64
 pub extern "C" fn srp_air(memory: &[u8]) -> u64
     ensures { λ r. ⌜ r ≡ telling (showing (now (memory .entry)) showAir) ⌝ }
 {
-    if out_of_range(memory) {
-        return 1;
-    }
-    packed(0, memory[AIR_AT] as u32)
+    show_byte(memory, AIR_AT)
 }
 
 // The air limit.
@@ -70,10 +75,7 @@ pub extern "C" fn srp_air(memory: &[u8]) -> u64
 pub extern "C" fn srp_limit(memory: &[u8]) -> u64
     ensures { λ r. ⌜ r ≡ telling (showing (now (memory .entry)) showLimit) ⌝ }
 {
-    if out_of_range(memory) {
-        return 1;
-    }
-    packed(0, memory[LIMIT_AT] as u32)
+    show_byte(memory, LIMIT_AT)
 }
 
 // Whether the link of a and b is up: 1, or 0.

@@ -1,7 +1,7 @@
 //! Runs of events and rehearsals by both builds (02, F-5), on networks that calls made or not, with every refusal; and what their tallies
 //! tell of the air limit.
 
-use crate::calls::{answer_to, by_library, call_of, calls_but_open, difference, line_of, tallied_of, Call, Desk, OUT};
+use crate::calls::{answer_to, by_library, call_of, calls_but_open, difference, is_refused, line_of, tallied_of, Call, Desk, OUT};
 use crate::networks::{some_event, some_network};
 use crate::random::Random;
 use crate::scripts::Script;
@@ -53,10 +53,6 @@ impl Ran {
 /// A line out of its number.
 fn unpacked(number: u64) -> Line {
     Line { answer: number as u32, sent: (number >> 32) as u8, in_air: (number >> 40) as u8, hops: (number >> 48) as u8 }
-}
-
-fn is_refusal(answer: u32) -> bool {
-    (1..100).contains(&answer)
 }
 
 /// The first place where two lists differ.
@@ -171,7 +167,7 @@ fn check_turned_down(first: &Ran, again: &Ran) -> Result<(), String> {
     if let Some(at) = place(&first.lines[..index], &again.lines[..index]) {
         return Err(format!("line {at}, before event {index}, was {:?} and is {:?}", first.line(at), again.line(at)));
     }
-    if is_refusal(first.line(index).answer) || again.line(index).answer != 7 {
+    if is_refused(u64::from(first.line(index).answer)) || again.line(index).answer != 7 {
         return Err(format!("line {index} was {:?} and is {:?}", first.line(index), again.line(index)));
     }
     Ok(())

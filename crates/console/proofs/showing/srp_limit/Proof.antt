@@ -1,45 +1,17 @@
--- `showing::srp_limit` meets its contract: refused with 1, or the air limit.
-use native.Mathlib.Omega.{arith}
+-- `showing::srp_limit` meets its contract: the byte that it shows is the air limit.
+use mathlib.Core.Path.{sym, _∙_}
 use borrow.Author.Needs.{needs}
-use Rattle.base.proofs.Booleans.{was-true, was-false}
-use Rattle.layout.specs.Places.{limitAt}
-use Rattle.layout.proofs.MeaningLaws.{Readable}
-use Rattle.console.proofs.ShowLaws.{range-readable, tells-1, tells-value}
+use Rattle.console.specs.Showing.{showLimit}
+use Rattle.console.proofs.ShowLaws.{tells-same}
 use Rattle.console.proofs.ShownLaws.{show-limit}
 use Rattle.console.proofs.showing.srp_limit.Statement.{statement}
 use Rattle.console.proofs.showing.srp_limit.Tie as tie
 
--- Past the first test the bytes are in range.
-here : (c : tie.Else1) → Readable (c .before .before .before .args .memory .now)
-here c = range-readable _ (was-false _ _ (c .before .out-of-range .ensures) (c .if1 .left))
-
-out-of-range-requires : tie.Need-out-of-range-requires
-out-of-range-requires c κs = search needs
+show-byte-requires : tie.Need-show-byte-requires
+show-byte-requires c κs = search needs
 
 returns : tie.Need-returns
-returns c = tells-1 _ _ (was-true _ _ (c .before .out-of-range .ensures) (c .if1 .taken))
-
-shared-slice-read-packed : tie.Need-shared-slice-read-packed
-shared-slice-read-packed c = omega (arith, here (c .before))
-
-cast-packed : tie.Need-cast-packed
-cast-packed c = omega (arith, c .shared-slice-known2 .given limitAt)
-
-packed-requires : tie.Need-packed-requires
-packed-requires c κs = search needs
-
-returns-2 : tie.Need-returns-2
-returns-2 c =
-    let past = c .before .before in
-    tells-value _ _ _ _ (was-false _ _ (past .before .out-of-range .ensures) (past .if1 .left)) (show-limit _ (here past)) (c .packed .ensures)
+returns c = c .show-byte .ensures ∙ tells-same _ _ showLimit (λ k. sym (show-limit _ k))
 
 pub srp-limit-spec : {M : Type 1} → statement M
-srp-limit-spec =
-    tie.close
-    (tie.spec
-    out-of-range-requires
-    returns
-    shared-slice-read-packed
-    cast-packed
-    packed-requires
-    returns-2)
+srp-limit-spec = tie.close (tie.spec show-byte-requires returns)
