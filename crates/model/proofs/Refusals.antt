@@ -72,7 +72,7 @@ module _ (n start limit : ℕ) where
 -- What its tests tell.
 pub limit-tells : (limit : ℕ) → notLimit limit ≡ false → limit ≤ airLimit
 unfolding notLimit
-limit-tells limit e = omega (arith, ltb-false airLimit limit e)
+limit-tells limit e = omega (arith, ltb-false _ limit e)
 
 module _ (n start : ℕ) where
   pub opening-tells : notOpening n start ≡ false → (2 ≤ n) × (n ≤ 16) × (0 < start)

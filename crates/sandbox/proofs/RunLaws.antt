@@ -54,13 +54,14 @@ module _ (memory : Memory) (kinds operands lines : List ℕ) where
   abbrev tallied : Memory → ℕ → Tally → Tallied
   tallied next answer t = record { memory = next; answer = answer; tally = t }
 
-  pub run-refused : (number : ℕ) → number ≢ 0 → running (view memory) kinds operands (length lines) ≡ refused number
-      → (t : Tally) → tallyIn t ≡ tallyOf [] → Runs (tallied memory number t) lines
+  pub run-refused : (number answer : ℕ) → answer ≡ number → number ≢ 0 → running (view memory) kinds operands (length lines) ≡ refused number
+      → (t : Tally) → tallyIn t ≡ tallyOf [] → Runs (tallied memory answer t) lines
   unfolding Tells tallyOfRun linesOf mapped putInto
-  run-refused number some e t none = (
-    called-refused memory _ number e,
-    (rw e, (rw e none, ((λ z. absurd (some z)), (made-after memory memory (λ r. r), (reached-after memory memory (λ r. r), λ z. absurd (some z)))))),
-  )
+  run-refused number answer is some e t none =
+      subst (λ k. Runs (tallied memory k t) lines) (sym is) (
+        called-refused memory _ number e,
+        (rw e, (rw e none, ((λ z. absurd (some z)), (made-after memory memory (λ r. r), (reached-after memory memory (λ r. r), λ z. absurd (some z)))))),
+      )
 
   -- Past the first three tests.
   module _ (listed : notEvents (length kinds) (length operands) ≡ false) (ranged : memoryInRange (view memory) ≡ true) (right : allEvents kinds operands ≡ true) where
@@ -70,7 +71,7 @@ module _ (memory : Memory) (kinds operands lines : List ℕ) where
     tested = refuse-passes 10 _ _ listed ∙ refuse-passes 1 _ _ (ap not ranged) ∙ refuse-passes 11 _ _ (ap not right)
 
     pub run-no-room : length lines < length kinds → (t : Tally) → tallyIn t ≡ tallyOf [] → Runs (tallied memory 12 t) lines
-    run-no-room h = run-refused 12 (λ z. omega arith) (tested ∙ refuse-holds 12 _ _ (lt-ltb (length lines) (length kinds) h))
+    run-no-room h = run-refused 12 12 refl (λ z. omega arith) (tested ∙ refuse-holds 12 _ _ (lt-ltb (length lines) (length kinds) h))
 
     module _ (next : Memory) (lines′ : List ℕ) (ran : Ran memory kinds operands (length kinds) next) where
       left : view next ≡ afterEvents (view memory) kinds operands (length kinds)

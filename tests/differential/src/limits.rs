@@ -89,23 +89,27 @@ fn under(script: &Script, limit: usize) -> Result<Ran, String> {
     Ok(ran)
 }
 
-/// The same, and by the library's single calls.
-fn under_singly(tally: &mut Tally, script: &Script, limit: usize) -> Result<Ran, String> {
+/// The same, where asked also by the library's single calls.
+fn under_counted(tally: &mut Tally, script: &Script, limit: usize, singly: bool) -> Result<Ran, String> {
     let ran = under(script, limit)?;
-    check_singly(&opened(script, limit)?, &script.kinds, &script.operands, &ran)?;
+    if singly {
+        check_singly(&opened(script, limit)?, &script.kinds, &script.operands, &ran)?;
+    }
     for (index, kind, a, b) in script.events() {
         tally.count_call(call_of(kind, a, b), ran.line(index).answer);
     }
     Ok(ran)
 }
 
-/// The claims with limit 128, whose single calls `scripts::check` makes; then with another limit, mostly one that turns events down.
+/// The claims with limit 128, whose single calls `scripts::check` makes; then with another limit, mostly one that turns events down. Of one script of
+/// four the single calls under other limits are made too: they are most of the time.
 fn check_all(tally: &mut Tally, script: &Script, random: &mut Random) -> Result<(), String> {
+    let singly = random.below(4) == 0;
     let first = under(script, MAX_PACKETS)?;
-    check_claims(&first, 0, |again| under_singly(tally, script, again))?;
+    check_claims(&first, 0, |again| under_counted(tally, script, again, singly))?;
     let highest = usize::from(first.tally().highest);
     let limit = if highest > 0 && random.percent(90) { random.below(highest) } else { random.below(MAX_PACKETS + 1) };
-    let other = under_singly(tally, script, limit)?;
+    let other = under_counted(tally, script, limit, singly)?;
     check_claims(&other, 0, |again| under(script, again)).map_err(|what| format!("after a run with limit {limit}, {what}"))?;
     let turned_down = limit < highest;
     tally.count_named(OF_128, u64::from(highest > 0));

@@ -23,7 +23,7 @@ returns : tie.Need-returns
 returns c = refused-13 _ _ _ _ _ _ (was-true _ _ (used-is (c .before)) (c .if1 .taken))
 
 returns-2 : tie.Need-returns-2
-returns-2 c = refused-7 _ _ _ _ _ _ (was-false _ _ (used-is (c .before .before)) (c .before .if1 .left)) (c .if2 .taken)
+returns-2 c = refused-7 _ _ _ _ _ _ (was-false _ _ (used-is (c .before .before)) (c .before .if1 .left)) (omega (arith, c .if2 .taken))
 
 returns-3 : tie.Need-returns-3
 returns-3 c = refused-not _ _ _ _ _ _ (was-false _ _ (used-is (c .before .before)) (c .before .if1 .left)) (omega (arith, c .if2 .left))

@@ -44,7 +44,7 @@ not-events-requires c κs = search needs
 
 returns : tie.Need-returns
 unfolding running
-returns c = run-refused _ _ _ _ 10 (λ z. omega arith) (refuse-holds 10 _ _ (sym (c .before .not-events .ensures) ∙ c .if1 .taken)) _ (none (c .before .before))
+returns c = run-refused _ _ _ _ 10 _ (omega arith) (λ z. omega arith) (refuse-holds 10 _ _ (sym (c .before .not-events .ensures) ∙ c .if1 .taken)) _ (none (c .before .before))
 
 in-range-requires : tie.Need-in-range-requires
 in-range-requires c κs = search needs
@@ -52,7 +52,7 @@ in-range-requires c κs = search needs
 returns-2 : tie.Need-returns-2
 unfolding running
 returns-2 c =
-    run-refused _ _ _ _ 1 (λ z. omega arith) (refuse-passes 10 _ _ (listed (c .before .before))
+    run-refused _ _ _ _ 1 _ (omega arith) (λ z. omega arith) (refuse-passes 10 _ _ (listed (c .before .before))
     ∙ refuse-holds 1 _ _ (ap not (not-was-false _ _ (c .before .in-range .ensures) (c .if2 .taken)))) _ (none (c .before .before .before .before))
 
 all-events-requires : tie.Need-all-events-requires
@@ -62,7 +62,7 @@ returns-3 : tie.Need-returns-3
 unfolding running
 returns-3 c =
     let past = c .before .before in
-    run-refused _ _ _ _ 11 (λ z. omega arith) (refuse-passes 10 _ _ (listed (past .before .before)) ∙ refuse-passes 1 _ _ (ap not (ranged past))
+    run-refused _ _ _ _ 11 _ (omega arith) (λ z. omega arith) (refuse-passes 10 _ _ (listed (past .before .before)) ∙ refuse-passes 1 _ _ (ap not (ranged past))
     ∙ refuse-holds 11 _ _ (ap not (not-was-false _ _ (c .before .all-events .ensures) (c .if3 .taken)))) _ (none (past .before .before .before .before))
 
 returns-4 : tie.Need-returns-4
