@@ -101,8 +101,8 @@ fn under_counted(tally: &mut Tally, script: &Script, limit: usize, singly: bool)
     Ok(ran)
 }
 
-/// The claims with limit 128, whose single calls `scripts::check` makes; then with another limit, mostly one that turns events down. Of one script of
-/// four the single calls under other limits are made too: they are most of the time.
+/// The claims with limit 128, whose single calls `scripts::check` makes; then another limit, mostly one that turns events down. Of one script of four
+/// the claims are held against that run too, and the single calls under other limits are made.
 fn check_all(tally: &mut Tally, script: &Script, random: &mut Random) -> Result<(), String> {
     let singly = random.below(4) == 0;
     let first = under(script, MAX_PACKETS)?;
@@ -110,9 +110,12 @@ fn check_all(tally: &mut Tally, script: &Script, random: &mut Random) -> Result<
     let highest = usize::from(first.tally().highest);
     let limit = if highest > 0 && random.percent(90) { random.below(highest) } else { random.below(MAX_PACKETS + 1) };
     let other = under_counted(tally, script, limit, singly)?;
+    tally.count_named(OF_128, u64::from(highest > 0));
+    if !singly {
+        return Ok(());
+    }
     check_claims(&other, 0, |again| under(script, again)).map_err(|what| format!("after a run with limit {limit}, {what}"))?;
     let turned_down = limit < highest;
-    tally.count_named(OF_128, u64::from(highest > 0));
     tally.count_named(OF_ANOTHER, u64::from(turned_down && other.tally().highest > 0));
     tally.count_named(NOT_REACHED, u64::from(turned_down && usize::from(other.tally().highest) < limit));
     Ok(())
