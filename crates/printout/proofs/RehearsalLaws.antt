@@ -40,7 +40,7 @@ use Rattle.script.proofs.RoundTrip.{read-opens, too-long}
 use Rattle.printout.specs.declared.rehearsal.Rehearsed.{Rehearsed}
 use Rattle.printout.specs.Text.{refusalText, eventText, labelText, rehearsalText}
 use Rattle.printout.specs.Contracts.{PutsAt}
-use Rattle.printout.specs.Printed.{Rehearsal, rehearsalOf, printoutRoom, rehearsing, rehearsed, rehearsedOf, Rehearses, textOf, tallyTold, programs, PrintsResult, Prints}
+use Rattle.printout.specs.Printed.{Rehearsal, rehearsalOf, printoutRoom, rehearsing, rehearsed, rehearsedOf, Rehearses, textOf, programs, PrintsResult, Prints}
 use Rattle.printout.specs.Printed.{RoutesLoopFree, TallyFits}
 use Rattle.printout.proofs.TextLaws.{puts-over}
 
@@ -210,16 +210,16 @@ module _ (bytes out : List ℕ) (r : Rehearsed) (out′ : List ℕ) (h : Rehears
   ended = ap (rehearsing bytes airLimit) roomy
 
   pub prints-accepted : r .answer ≡ 0 → Prints bytes out r out′
-  unfolding Rehearses rehearsedOf mapped putInto textOf tallyTold
+  unfolding Rehearses rehearsedOf mapped putInto textOf
   prints-accepted zero = subst (λ z. PrintsResult z out r out′) ended (go (rehearsing bytes airLimit (length out)) (rehearsing-ends bytes airLimit (length out)) (h .0) (h .1))
     where
       go : (z : Result Rehearsal) → Satisfies Positive (λ v. Unit {0}) z → r ≡ rehearsedOf z → out′ ≡ putInto (mapped (λ v. v .text) z) out → PrintsResult z out r out′
       go (refused number) (refuses some) is put = absurd (omega (arith, some, zero, ap (λ (x : Rehearsed). x .answer) is))
-      go (accepted v) t is put = record { text = put; text-length = ap (λ (x : Rehearsed). x .length) is; tallied = ap (λ (x : Rehearsed). tallyIn (x .tally)) is }
+      go (accepted v) t is put = record { text = put; text-length = ap (λ (x : Rehearsed). x .length) is; answered = ap (λ (x : Rehearsed). x .answer) is; tallied = ap (λ (x : Rehearsed). x .tally) is }
 
   pub prints-refused : r .answer ≢ 0 → {end : ℕ} {out″ : List ℕ} → PutsAt out′ 0 (refusalText (r .answer)) end out″ → end ≤ length out
       → Prints bytes out (record { length = end; answer = r .answer; tally = r .tally }) out″
-  unfolding Rehearses rehearsedOf mapped putInto textOf tallyTold
+  unfolding Rehearses rehearsedOf mapped putInto textOf
   prints-refused some {end} {out″} p l =
       subst (λ z. PrintsResult z out told out″) ended (go (rehearsing bytes airLimit (length out)) (h .0) (h .1))
     where
@@ -233,7 +233,8 @@ module _ (bytes out : List ℕ) (r : Rehearsed) (out′ : List ℕ) (h : Rehears
           record {
             text = text .0 ∙ ap (λ (k : ℕ). over (refusalText k) out) same;
             text-length = text .1 ∙ ap (λ (k : ℕ). length (refusalText k)) same;
-            tallied = ap (λ (x : Rehearsed). tallyIn (x .tally)) is;
+            answered = same;
+            tallied = ap (λ (x : Rehearsed). x .tally) is;
           }
       go (accepted v) is put = absurd (some (ap (λ (x : Rehearsed). x .answer) is))
 

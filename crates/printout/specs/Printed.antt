@@ -13,7 +13,6 @@ use Rattle.model.specs.Walks.{WalksEnd}
 use Rattle.model.specs.Events.{eventLimit, afterEvents}
 use Rattle.model.specs.Printout.{eventLines}
 use Rattle.model.specs.Tally.{Tally, tallyOf, HighestFits}
-use Rattle.telling.specs.Tallies.{tallyIn}
 use Rattle.codec.specs.Bytes.{putInto, over}
 use Rattle.script.specs.Script.{Script, reading}
 use Rattle.printout.specs.declared.rehearsal.Rehearsed.{Rehearsed}
@@ -62,10 +61,6 @@ unfoldable pub textOf : Result Rehearsal → List ℕ
 textOf (refused number) = refusalText number
 textOf (accepted v) = v .text
 
-unfoldable pub tallyTold : Result Rehearsal → Tally
-tallyTold (refused number) = tallyOf []
-tallyTold (accepted v) = v .tally
-
 unfoldable pub programs : (bytes : List ℕ) → Result Rehearsal
 programs bytes = rehearsing bytes airLimit printoutRoom
 
@@ -73,11 +68,12 @@ unfoldable pub printed : List ℕ → List ℕ
 printed bytes = textOf (programs bytes)
 
 -- The program's rehearsal, by how it ended: the text stands at the start of the lent array, the places past it are kept, and the result has its
--- length and the tally.
+-- length; its answer and its tally are those of the rehearsal.
 pub record PrintsResult (result : Result Rehearsal) (out : List ℕ) (r : Rehearsed) (out′ : List ℕ) : Type 0 where
   pub text : out′ ≡ over (textOf result) out
   pub text-length : r .length ≡ length (textOf result)
-  pub tallied : tallyIn (r .tally) ≡ tallyTold result
+  pub answered : r .answer ≡ rehearsedOf result .answer
+  pub tallied : r .tally ≡ rehearsedOf result .tally
 
 abbrev pub Prints : (bytes out : List ℕ) → (r : Rehearsed) → (out′ : List ℕ) → Type 0
 Prints bytes out r out′ = PrintsResult (programs bytes) out r out′
