@@ -262,20 +262,7 @@ fn check_run_orders(tally: &mut Tally) -> Result<(), String> {
 fn check_rehearsal_orders(tally: &mut Tally) -> Result<(), String> {
     for faults in 0..1 << 8 {
         let has = |fault: usize| faults >> fault & 1 == 1;
-        let mut script = Script { n: 4, start: 9, kinds: vec![1, 4, 9], operands: vec![0, 1, 2, 0, 3, 0] };
-        if has(2) {
-            script.n = 17;
-        }
-        if has(3) {
-            script.start = 0;
-        }
-        if has(4) {
-            script.kinds[2] = 10;
-        }
-        if has(5) {
-            script.operands[3] = 1;
-        }
-        let mut bytes = script.bytes();
+        let mut bytes = Script::with_faults([2, 3, 4, 5].map(has)).bytes();
         if has(1) {
             bytes.push(0);
         }

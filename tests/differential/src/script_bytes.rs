@@ -163,23 +163,10 @@ pub fn check_each_value() -> Result<Tally, String> {
 /// Every set of faults together: the answer is the first of 9, 10, 1, 11, 12 that applies, and of 10, 1, 11, 12 where a script is written.
 pub fn check_orders() -> Result<Tally, String> {
     let mut tally = Tally::default();
-    let script = Script { n: 4, start: 9, kinds: vec![1, 4, 9], operands: vec![0, 1, 2, 0, 3, 0] };
-    let events = script.kinds.len();
     for faults in 0..1 << 8 {
         let has = |fault: usize| faults >> fault & 1 == 1;
-        let mut wrong = script.clone();
-        if has(0) {
-            wrong.n = 17;
-        }
-        if has(1) {
-            wrong.start = 0;
-        }
-        if has(2) {
-            wrong.kinds[2] = 10;
-        }
-        if has(3) {
-            wrong.operands[3] = 1;
-        }
+        let mut wrong = Script::with_faults([0, 1, 2, 3].map(has));
+        let events = wrong.kinds.len();
         if has(4) {
             wrong.operands.push(0);
         }

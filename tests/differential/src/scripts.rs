@@ -18,6 +18,16 @@ pub struct Script {
 }
 
 impl Script {
+    /// A script of three events, where asked with a fault: n, start, a kind, an unused operand.
+    pub fn with_faults([n, start, kind, operand]: [bool; 4]) -> Script {
+        Script {
+            n: if n { 17 } else { 4 },
+            start: if start { 0 } else { 9 },
+            kinds: vec![1, 4, if kind { 10 } else { 9 }],
+            operands: vec![0, 1, 2, u8::from(operand), 3, 0],
+        }
+    }
+
     pub fn of(bytes: &[u8]) -> Result<Script, u32> {
         let (sizes, kinds, operands) = script::parse(bytes)?;
         Ok(Script { n: usize::from(sizes.n), start: sizes.start, kinds: kinds.to_vec(), operands: operands.to_vec() })
