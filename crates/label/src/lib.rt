@@ -1,8 +1,10 @@
 // Labels: their range, their order and New label (01, "Labels").
+use fraction::Fraction;
+use fraction::simplest_between;
 ghost use mathlib.Core.Path.{_≡_};
 ghost use mathlib.Core.Bool.{true};
 ghost use Prim.Native.Nat.{_+_, _*_, _≤_};
-ghost use Rattle.label.specs.Label.{label, isUnassigned, inRange, above, fitting, next, split, newLabel, newLabelCall, outcome};
+ghost use Rattle.label.specs.Label.{label, isUnassigned, inRange, above, _≻_, fractionOf, fitting, next, split, newLabel, newLabelCall, outcome};
 
 // A destination's sequence number.
 pub struct SequenceNumber(pub u64);
@@ -91,6 +93,16 @@ pub fn is_above(x: Label, y: Label) -> bool
     product(y.m, x.d) < product(x.m, y.d)
 }
 
+// The fraction of l.
+fn fraction_of(l: Label) -> Fraction
+    ensures { λ r. ⌜ r ≡ fractionOf l ⌝ }
+{
+    Fraction {
+        m: l.m as u64,
+        d: l.d as u64,
+    }
+}
+
 // The label (s, m/d), if its denominator fits 32 bits.
 fn fitting(s: SequenceNumber, m: u64, d: u64) -> NewLabel
     requires { ⌜ m ≤ d ⌝ }
@@ -117,9 +129,11 @@ fn next_of(v: Label) -> NewLabel
 // The split of c and v.
 fn split_of(c: Label, v: Label) -> NewLabel
     requires { ⌜ (inRange c ≡ true) × (inRange v ≡ true) ⌝ }
+    requires { ⌜ (c ≻ v) × (c .s .0 ≡ v .s .0) ⌝ }
     ensures { λ r. ⌜ outcome r ≡ split c v ⌝ }
 {
-    fitting(v.s, sum(c.m, v.m), sum(c.d, v.d))
+    let f = simplest_between(fraction_of(v), fraction_of(c));
+    fitting(v.s, f.m, f.d)
 }
 
 // New label, of labels in range.
