@@ -54,13 +54,16 @@ module _ (x y : Label) where
   ordered-⪰ (by-number l) = above-higher y x l
   ordered-⪰ (by-fraction e h) = above-same y x (sym e) ∙ le-ltb _ _ h
 
--- Above: the sequence number is at most the other's.
+-- Ordered either way: the sequence number is at most the other's.
+ordered-number : {R : ℕ → ℕ → Type 0} (x y : Label) → Ordered R x y → x .s .0 ≤ y .s .0
+ordered-number x y (by-number l) = le-of-lt l
+ordered-number x y (by-fraction e _) = omega arith
+
 pub ≻-number : (x y : Label) → x ≻ y → x .s .0 ≤ y .s .0
-≻-number x y h = go (≻-ordered x y h)
-  where
-    go : Ordered _<_ x y → x .s .0 ≤ y .s .0
-    go (by-number l) = le-of-lt l
-    go (by-fraction e _) = omega arith
+≻-number x y h = ordered-number x y (≻-ordered x y h)
+
+pub ⪰-number : (x y : Label) → x ⪰ y → x .s .0 ≤ y .s .0
+⪰-number x y h = ordered-number x y (⪰-ordered x y h)
 
 -- No label is above itself, and of two labels at most one is above the other.
 pub ≻-irreflexive : (x : Label) → x ⪰ x

@@ -1,10 +1,11 @@
--- The starred cases of 01, "Labels": New label from A, C and V, and what it gives.
+-- The starred cases of 01, "Labels": New label from A, C and V, and what it gives; the last two as 02, F-6, changes them.
 use Prim.Native.Nat.{ℕ}
 use mathlib.Core.Path.{_≡_, refl}
 use mathlib.Core.Bool.{false}
 use mathlib.Core.List.{List, [], _∷_, map}
+use Rattle.fraction.specs.Fraction.{isBetween, leastAbove, firstFrom, simplest}
 use Rattle.label.specs.declared.Label.{Label}
-use Rattle.label.specs.Label.{label, isUnassigned, inRange, above, Outcome, took, gave, fitting, next, split, newLabel, newLabelCall}
+use Rattle.label.specs.Label.{label, isUnassigned, inRange, above, Outcome, took, gave, fitting, next, split, newLabelBy, newLabelCall}
 
 -- The label (s, m/d).
 infix 80 ⟨_∣_/_⟩
@@ -34,12 +35,12 @@ cases =
     ∷ ⟨ 0 ∣ 1 / 1 ⟩ ⨾ ⟨ 2 ∣ 1 / 2 ⟩ ⨾ ⟨ 1 ∣ 0 / 1 ⟩ ⇒ gave 113
     ∷ ⟨ 0 ∣ 1 / 1 ⟩ ⨾ ⟨ 0 ∣ 1 / 1 ⟩ ⨾ ⟨ 1 ∣ 1 / 4_294_967_294 ⟩ ⇒ took ⟨ 1 ∣ 2 / 4_294_967_295 ⟩
     ∷ ⟨ 0 ∣ 1 / 1 ⟩ ⨾ ⟨ 0 ∣ 1 / 1 ⟩ ⨾ ⟨ 1 ∣ 1 / 4_294_967_295 ⟩ ⇒ gave 114
-    ∷ ⟨ 1 ∣ 2 / 3 ⟩ ⨾ ⟨ 1 ∣ 2 / 3 ⟩ ⨾ ⟨ 1 ∣ 1 / 4_294_967_292 ⟩ ⇒ took ⟨ 1 ∣ 3 / 4_294_967_295 ⟩
-    ∷ ⟨ 1 ∣ 2 / 3 ⟩ ⨾ ⟨ 1 ∣ 2 / 3 ⟩ ⨾ ⟨ 1 ∣ 1 / 4_294_967_293 ⟩ ⇒ gave 114
+    ∷ ⟨ 1 ∣ 2 / 3 ⟩ ⨾ ⟨ 1 ∣ 2 / 3 ⟩ ⨾ ⟨ 1 ∣ 1 / 4_294_967_292 ⟩ ⇒ took ⟨ 1 ∣ 1 / 2 ⟩
+    ∷ ⟨ 1 ∣ 2 / 3 ⟩ ⨾ ⟨ 1 ∣ 2 / 3 ⟩ ⨾ ⟨ 1 ∣ 1 / 4_294_967_293 ⟩ ⇒ took ⟨ 1 ∣ 1 / 2 ⟩
     ∷ []
 
 pub starred : map (λ k. newLabelCall (k .own) (k .cached) (k .advertised)) cases ≡ map (λ k. k .given) cases
-unfolding cases newLabelCall inRange isUnassigned newLabel above next split fitting
+unfolding cases newLabelCall inRange isUnassigned newLabelBy above next split simplest firstFrom leastAbove isBetween fitting
 starred = refl
 
 -- "2/4 is neither above nor below 1/2".

@@ -4,7 +4,8 @@ use fraction::simplest_between;
 ghost use mathlib.Core.Path.{_≡_};
 ghost use mathlib.Core.Bool.{true};
 ghost use Prim.Native.Nat.{_+_, _*_, _≤_};
-ghost use Rattle.label.specs.Label.{label, isUnassigned, inRange, above, _≻_, fractionOf, fitting, next, split, newLabel, newLabelCall, outcome};
+ghost use Rattle.fraction.specs.Fraction.{_⊏_};
+ghost use Rattle.label.specs.Label.{label, isUnassigned, inRange, above, fractionOf, fitting, next, split, SplitRule, newLabel, newLabelCall, outcome};
 
 // A destination's sequence number.
 pub struct SequenceNumber(pub u64);
@@ -128,9 +129,9 @@ fn next_of(v: Label) -> NewLabel
 
 // The split of c and v.
 fn split_of(c: Label, v: Label) -> NewLabel
-    requires { ⌜ (inRange c ≡ true) × (inRange v ≡ true) ⌝ }
-    requires { ⌜ (c ≻ v) × (c .s .0 ≡ v .s .0) ⌝ }
+    requires { ⌜ (inRange c ≡ true) × (fractionOf v ⊏ fractionOf c) ⌝ }
     ensures { λ r. ⌜ outcome r ≡ split c v ⌝ }
+    ensures rule { λ r. ⌜ SplitRule c v (outcome r) ⌝ }
 {
     let f = simplest_between(fraction_of(v), fraction_of(c));
     fitting(v.s, f.m, f.d)
