@@ -7,7 +7,7 @@ use mathlib.Core.List.{List, [], _∷_}
 use native.Mathlib.Omega.{arith}
 use Rattle.base.specs.Results.{Result, refused, accepted}
 use Rattle.model.specs.Memory.{Network, fresh}
-use Rattle.model.specs.Calls.{Call, Open, Effect, after, notOpening, notLimit, step, run, trace}
+use Rattle.model.specs.Calls.{Call, Open, Effect, after, notOpening, notLimit, step, run, runBy, trace}
 use Rattle.model.specs.Events.{running}
 use Rattle.model.specs.Walks.{WalksEnd, Reached, LoopFree}
 use Rattle.model.proofs.Refusals.{openNumber, Opens, open-either}
@@ -41,14 +41,14 @@ call-stores c bytes r left net s e =
 -- What draining leaves, the calls of its turns leave.
 drain-stores : (b : Bool) (bytes : List ℕ) (r : ℕ) (left : List ℕ) (net : Network) → Stores bytes net → DrainsBy b bytes r left
     → (calls : List Call) × Stores left (run calls net)
-unfolding run
+unfolding runBy
 drain-stores true bytes r left net s (told, same) = ([], subst (λ b. Stores b net) (sym same) s)
 drain-stores false bytes r left net s d =
     (callsOf (d .turns), subst (Stores left) (d .drained .calls ∙ ap (run (callsOf (d .turns))) (s .network)) (d .stores))
 
 stepped : (c : Action) (bytes : List ℕ) (r : ℕ) (left : List ℕ) (net : Network) → Stores bytes net → LeavesBytes c bytes r left
     → (calls : List Call) × Stores left (run calls net)
-unfolding run
+unfolding runBy
 stepped (call c) bytes r left net s e = (c ∷ [], call-stores c bytes r left net s e)
 stepped drain bytes r left net s e = drain-stores (outOfRange bytes) bytes r left net s e
 stepped (events kinds operands room) bytes r left net s e =

@@ -12,7 +12,7 @@ use Rattle.base.proofs.Booleans.{both}
 use Rattle.base.proofs.Results.{Satisfies, refuses, accepts, satisfies-refuse, satisfies-accepted}
 use Rattle.model.specs.Memory.{Network, memoryInRange}
 use Rattle.model.specs.Calls.{Effect}
-use Rattle.model.specs.Events.{running}
+use Rattle.model.specs.Events.{running, runningBy}
 use Rattle.model.specs.Tally as model
 use Rattle.model.specs.Tally.{HighestFits}
 use Rattle.draining.specs.Draining.{events}
@@ -45,7 +45,7 @@ module _ (net : Network) where
   Ended z = Satisfies (λ number. isRefusal number ≡ true) (λ (e : Effect). (e .answer ≡ 0) × (memoryInRange net ≡ true)) z
 
   run-ended : (kinds operands : List ℕ) (room : ℕ) → Ended (running net kinds operands room)
-  unfolding running isRefusal
+  unfolding runningBy isRefusal
   run-ended kinds operands room =
       satisfies-refuse 10 _ _ refl (λ listed. satisfies-refuse 1 _ _ refl (λ ranged.
       satisfies-refuse 11 _ _ refl (λ right. satisfies-refuse 12 _ _ refl (λ fits. accepts (refl, not-false (memoryInRange net) ranged)))))

@@ -19,9 +19,9 @@ use Rattle.label.specs.Label.{above, Outcome, took, gave}
 use Rattle.model.specs.Memory.{Successor, Row, Record, Request, Reply, Body, request, reply, error, other, Packet, Network}
 use Rattle.model.specs.Memory.{place, zeroRecord, zeroPacket, linkIn, rowIn, labelAt, rowAt, recordAt, linkUp, packetAt, without, under, put}
 use Rattle.model.specs.Memory.{setLabels, setRows, setRecords, setActives, setAir, setSerials}
-use Rattle.model.specs.Calls.{Effect, effect, packet, append, nextSerial, send, sending, neighbours, copies, errors, maskOf, takeOut, empties, emptied, bit, withdrawn, onError, removePacket, receive, deliver}
+use Rattle.model.specs.Calls.{Effect, effect, packet, append, nextSerial, send, sending, neighbours, copies, errors, maskOf, takeOut, empties, emptied, bit, withdrawn, onError, removePacket, receive, receiveBy, deliver, deliverBy}
 use Rattle.model.specs.Calls.{recorded, markPassed, replyTo, resets, withNumber, atDestination, canReply, onward, engage, onRequest}
-use Rattle.model.specs.Calls.{matches, adopt, settle, passesOn, passOn, onOutcome, onReply}
+use Rattle.model.specs.Calls.{matches, adopt, settle, passesOn, passOn, onOutcome, onReply, onReplyBy}
 use Rattle.model.proofs.Rows.{takeOut-either, takeOut-at}
 use Rattle.model.proofs.Invariant.{BodyOk, WellFormed, place-below}
 use Rattle.model.proofs.Sending.{well-formed-remove}
@@ -234,7 +234,7 @@ module _ (ids : List RequestId) (i j serial : ℕ) (v : Reply) (m : List·Memᴰ
         eqb-true (kept .number) (v .number) (both (eqb (kept .number) (v .number)) (eqb (kept .destination) (v .destination)) (rw (ne-eqb i (v .source) q) at e) .0)
 
     spent-received : Within (onReply i j serial v net)
-    unfolding onReply
+    unfolding onReplyBy
     spent-received =
         let t = v .destination in
         choose Within (eqb i t || not (matches i v net))
@@ -308,7 +308,7 @@ spent-error net ids i j serial mask o hi high len =
 -- A packet's body, delivered: its credit is spent, and 1 of it for good.
 spent-body : {Reachable : Type 0} (net : Network) (ids : List RequestId) (i j serial : ℕ) (b : Body) (most : ℕ) → WellFormed Reachable net → AirOf ids (net .air) → i < net .n → BodyOk (net .n) b
     → BodyOf ids b → potential (net .n) ids net + bodyCredit (net .n) b ≤ most + 1 → Spent (net .n) ids most (receive i j serial b net)
-unfolding receive bodyCredit
+unfolding receiveBy bodyCredit
 spent-body net ids i j serial (request R) most ok o hi h m t =
     let at = place-below i (R .source) (net .n) hi (h .source-below) (ok .high) in
     spent-le (spent-request ids i j R m net o hi (omega (arith, ok .records .records-length))) (omega arith)
@@ -337,7 +337,7 @@ module _ {Reachable : Type 0} (net : Network) (ok : WellFormed Reachable net) (i
       of-append ids (take 0 (net .air)) (drop 1 (net .air)) (λ p m. o p (mem-take 0 (net .air) m)) (λ p m. o p (mem-drop 1 (net .air) m))
 
   pub spent-delivery : (most : ℕ) → potential (net .n) ids net ≤ most + 1 → Spent (net .n) ids most (deliver 0 net)
-  unfolding deliver removePacket setAir
+  unfolding deliverBy removePacket setAir
   spent-delivery most t =
       let p = packetAt net 0 in
       let m = mem-at (net .air) 0 zeroPacket h in

@@ -11,7 +11,7 @@ use Rattle.base.specs.Results.{refused, isRefusal}
 use Rattle.base.proofs.Booleans.{clash}
 use Rattle.base.proofs.Results.{not-accepted, same-accepted, same-refused}
 use Rattle.model.specs.Memory.{Network, memoryInRange}
-use Rattle.model.specs.Calls.{Deliver, Lose, Effect, after, notPacket, step, run}
+use Rattle.model.specs.Calls.{Deliver, Lose, Effect, after, notPacket, step, run, runBy}
 use Rattle.model.proofs.Refusals.{out-of-range, deliver-6}
 use Rattle.draining.specs.Draining.{Turn, delivery, loss, losesPacket, TurnLeaves, Turns, Drains, deliveriesIn, lossesIn, callsOf}
 
@@ -41,7 +41,7 @@ turns-count (loss ∷ turns) = omega (arith, turns-count turns)
 
 -- Turns are their calls.
 pub turns-run : (turns : List Turn) (before left : Network) → Turns turns before left → left ≡ run (callsOf turns) before
-unfolding callsOf run after
+unfolding callsOf runBy after
 turns-run [] before left e = e
 turns-run (delivery ∷ turns) before left (next, (e, accepts, is), rest) =
     turns-run turns next left rest ∙ ap (run (callsOf turns)) (is ∙ sym (ap (after before) accepts))

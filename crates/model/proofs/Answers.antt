@@ -8,12 +8,12 @@ use Rattle.base.specs.Numbers.{maxU32}
 use Rattle.base.specs.Results.{Result, refused, accepted, refuse_when_otherwise_, isRefusal}
 use Rattle.base.proofs.Results.{Satisfies, accepts, satisfies-refuse, satisfies-refused, satisfies-accepted}
 use Rattle.label.specs.declared.Label.{Label}
-use Rattle.label.specs.Label.{Outcome, took, gave, above, fitting, next, split, newLabel}
+use Rattle.label.specs.Label.{Outcome, took, gave, above, fitting, next, split, newLabel, newLabelBy}
 use Rattle.model.specs.Memory.{Request, Reply, Body, request, reply, error, other, Network, labelAt, rowAt, recordAt, setRecord}
 use Rattle.model.specs.Calls.{Call, Open, Up, Down, Solicit, GiveUp, Expire, Deliver, Lose, Duplicate}
-use Rattle.model.specs.Calls.{Effect, limited, opening, step}
+use Rattle.model.specs.Calls.{Effect, limited, opening, step, stepBy}
 use Rattle.model.specs.Calls.{bit, removes, emptied, withdrawn, recorded, resets, canReply, matches, passesOn}
-use Rattle.model.specs.Calls.{sending, down, solicit, replyTo, atDestination, engage, onRequest, passOn, onOutcome, onReply, errorOutcome, onError, receive, deliver}
+use Rattle.model.specs.Calls.{sending, down, solicit, replyTo, atDestination, engage, onRequest, passOn, onOutcome, onReply, onReplyBy, errorOutcome, onError, receive, receiveBy, deliver, deliverBy}
 
 record Answers (e : Effect) : Type 0 where
   tells : isRefusal (e .answer) ≡ false
@@ -38,12 +38,12 @@ unfolding fitting isRefusal
 fitting-gives s m d = choose Gives (ltb maxU32 d) (λ e. gives refl) (λ e. takes)
 
 new-gives : (a c v : Label) → Gives (newLabel a c v)
-unfolding newLabel next split isRefusal
+unfolding newLabelBy next split isRefusal
 new-gives a c v =
     choose Gives (not (above a v)) (λ e. gives refl) (λ e. choose Gives (not (above c v)) (λ e. gives refl)
     (λ e. choose Gives (ltb (a .s .0) (v .s .0) && ltb (c .s .0) (v .s .0)) (λ e. fitting-gives (v .s .0) (v .m + 1) (v .d + 1))
-    (λ e. choose Gives (ltb (a .s .0) (v .s .0) && eqb (c .s .0) (v .s .0)) (λ e. fitting-gives (v .s .0) (c .m + v .m) (c .d + v .d))
-    (λ e. choose Gives (above c a) (λ e. takes) (λ e. fitting-gives (v .s .0) (c .m + v .m) (c .d + v .d))))))
+    (λ e. choose Gives (ltb (a .s .0) (v .s .0) && eqb (c .s .0) (v .s .0)) (λ e. fitting-gives _ _ _)
+    (λ e. choose Gives (above c a) (λ e. takes) (λ e. fitting-gives _ _ _)))))
 
 -- What a packet's receiver answers.
 module _ (i j : ℕ) (R : Request) (net : Network) where
@@ -75,7 +75,7 @@ outcome-answers i j serial v (gave number) net (gives h) = pass-answers number i
 outcome-answers i j serial v (took g) net h = pass-answers 115 i v _ refl
 
 reply-answers : (i j serial : ℕ) (v : Reply) (net : Network) → Answers (onReply i j serial v net)
-unfolding onReply isRefusal
+unfolding onReplyBy isRefusal
 reply-answers i j serial v net =
     choose Answers (eqb i (v .destination) || not (matches i v net)) (λ e. record { tells = refl }) (λ e. outcome-answers i j serial v _ net (new-gives _ _ _))
 
@@ -90,7 +90,7 @@ error-answers i j serial mask net = record {
     outcome false gone = refl
 
 receive-answers : (i j serial : ℕ) (b : Body) (net : Network) → Answers (receive i j serial b net)
-unfolding receive isRefusal
+unfolding receiveBy isRefusal
 receive-answers i j serial (request R) net = request-answers i j R net
 receive-answers i j serial (reply v) net = reply-answers i j serial v net
 receive-answers i j serial (error mask) net = error-answers i j serial mask net
@@ -101,7 +101,7 @@ unfolding isRefusal
 none-answers e z = record { tells = rw z }
 
 step-tells : (c : Call) (net : Network) → Tells (step c net)
-unfolding step opening down solicit sending deliver isRefusal
+unfolding stepBy opening down solicit sending deliverBy isRefusal
 step-tells (Open n start limit) net = refuse-tells 1 _ _ refl (refuse-tells 14 _ _ refl (accepts (none-answers _ refl)))
 step-tells (Up a b) net = refuse-tells 1 _ _ refl (refuse-tells 2 _ _ refl (refuse-tells 3 _ _ refl (accepts (none-answers _ refl))))
 step-tells (Down a b) net = refuse-tells 1 _ _ refl (refuse-tells 2 _ _ refl (refuse-tells 3 _ _ refl (limited-tells net _ (none-answers _ refl))))

@@ -1,4 +1,5 @@
--- A packet delivered keeps the invariant, whatever its kind. New label enters through `MaintainsOrder` alone.
+-- A packet delivered keeps the invariant, whatever its kind. New label enters through `MaintainsOrder` alone, and the rule for splits through
+-- `KeepsOrder`.
 use Prim.Native.Nat.{ℕ, _+_, _^_, _<_}
 use mathlib.Core.Path.{_≡_, refl, sym, subst}
 use mathlib.Core.Logic.{_≢_}
@@ -13,16 +14,15 @@ use Rattle.base.specs.Lists.{isEmpty}
 use Rattle.base.proofs.Booleans.{both, neither, choose, cases}
 use Rattle.base.proofs.Lists.{mem-at}
 use Rattle.label.specs.declared.Label.{Label}
-use Rattle.label.specs.Label.{inRange, above, Outcome, took, gave, MaintainsOrder}
+use Rattle.label.specs.Label.{inRange, above, Outcome, took, gave, Splitting, MaintainsOrder, KeepsOrder}
 use Rattle.label.proofs.Range.{assigned-in-range, unassigned-in-range}
 use Rattle.label.proofs.Order.{above-higher, ≻-irreflexive}
-use Rattle.label.proofs.New.{new-label-maintains}
 use Rattle.model.specs.Memory.{Successor, Request, Reply, Body, request, reply, error, other, Network}
 use Rattle.model.specs.Memory.{place, zeroPacket, linkIn, labelAt, rowAt, recordAt, linkUp, packetAt, setLabels, setRows, setRecords, setActives, setAir}
 use Rattle.model.specs.Memory.{under}
-use Rattle.model.specs.Calls.{Effect, emptied, bit, withdrawn, onError, removePacket, receive, deliver}
+use Rattle.model.specs.Calls.{Effect, emptied, bit, withdrawn, onError, removePacket, receiveBy, deliverBy}
 use Rattle.model.specs.Calls.{recorded, markPassed, replyTo, resets, withNumber, atDestination, canReply, onwardLabel, onward, engage, onRequest}
-use Rattle.model.specs.Calls.{matches, cachedAt, adopt, settle, passesOn, passOn, onOutcome, onReply}
+use Rattle.model.specs.Calls.{matches, cachedAt, adopt, settle, passesOn, passOn, onOutcome, onReplyBy}
 use Rattle.model.proofs.Rows.{under-mem, put-mem, put-length, put-distinct, emptied-below}
 use Rattle.model.proofs.Links.{link-apart, link-symmetric}
 use Rattle.model.proofs.Invariant.{SuccessorOk, BodyOk, Advertised, RecordOk, WellFormed, Monotone}
@@ -208,13 +208,13 @@ module _ {Reachable : Type 0} (net : Network) (ok : WellFormed Reachable net) (i
       choose (λ z. inRange z ≡ true) (eqb i (v .source)) (λ q. unassigned-in-range)
       (λ q. ok .records .each i (v .source) (f .here) (h .source-below) (eqb-false i (v .source) q) .ranged)
 
-  well-formed-reply : (Reachable → Advertised (net .labels) j (reply v)) → WellFormed Reachable (onReply i j serial v net .net)
-  unfolding onReply
-  well-formed-reply advertised =
+  well-formed-reply : (splits : Splitting) → KeepsOrder splits → (Reachable → Advertised (net .labels) j (reply v)) → WellFormed Reachable (onReplyBy splits i j serial v net .net)
+  unfolding onReplyBy
+  well-formed-reply splits order advertised =
       let t = v .destination in
       choose (λ (z : Effect). WellFormed Reachable (z .net)) (eqb i t || not (matches i v net)) (λ e. ok)
       (λ e. well-formed-outcome (eqb-false i t (neither (eqb i t) (not (matches i v net)) e .0)) advertised (cachedAt i v net) _
-      (λ g q. new-label-maintains _ _ _ g (ok .tables .cell i t (f .here) (h .destination-below) .ranged) cached-ranged (h .ranged) q))
+      (λ g q. order _ _ _ g (ok .tables .cell i t (f .here) (h .destination-below) .ranged) cached-ranged (h .ranged) q))
 
 -- An error from j.
 well-formed-error : {Reachable : Type 0} (net : Network) → WellFormed Reachable net → (i j serial mask : ℕ) → i < net .n → WellFormed Reachable (onError i j serial mask net .net)
@@ -224,19 +224,21 @@ well-formed-error net ok i j serial mask hi =
     well-formed-sending _ (well-formed-rows net ok _ (tables-takeOut (bit mask) leaves i (net .n) (net .rows) (ok .tables))) _ i _
     (errors-ok net i hi (emptied (bit mask) leaves i (net .n) (net .rows)) (emptied-below (bit mask) leaves i (net .n) (net .rows)))
 
-well-formed-receive : {Reachable : Type 0} (net : Network) → WellFormed Reachable net → (i j serial : ℕ) (b : Body) → From Reachable (net .n) (net .links) i j → BodyOk (net .n) b
-    → (Reachable → Advertised (net .labels) j b) → WellFormed Reachable (receive i j serial b net .net)
-unfolding receive
-well-formed-receive net ok i j serial (request R) f h advertised = well-formed-request i j R net ok f h
-well-formed-receive net ok i j serial (reply v) f h advertised = well-formed-reply net ok i j serial v f h advertised
-well-formed-receive net ok i j serial (error mask) f h advertised = well-formed-error net ok i j serial mask (f .here)
-well-formed-receive net ok i j serial (other kind) f h advertised = ok
+-- What New label takes maintains order, by this rule for splits.
+module _ {Reachable : Type 0} (splits : Splitting) (order : KeepsOrder splits) where
+  well-formed-receive : (net : Network) → WellFormed Reachable net → (i j serial : ℕ) (b : Body) → From Reachable (net .n) (net .links) i j → BodyOk (net .n) b
+      → (Reachable → Advertised (net .labels) j b) → WellFormed Reachable (receiveBy splits i j serial b net .net)
+  unfolding receiveBy
+  well-formed-receive net ok i j serial (request R) f h advertised = well-formed-request i j R net ok f h
+  well-formed-receive net ok i j serial (reply v) f h advertised = well-formed-reply net ok i j serial v f h splits order advertised
+  well-formed-receive net ok i j serial (error mask) f h advertised = well-formed-error net ok i j serial mask (f .here)
+  well-formed-receive net ok i j serial (other kind) f h advertised = ok
 
-pub well-formed-deliver : {Reachable : Type 0} (k : ℕ) (net : Network) → WellFormed Reachable net → k < length (net .air) → WellFormed Reachable (deliver k net .net)
-unfolding deliver removePacket setAir
-well-formed-deliver k net ok h =
-    let p = packetAt net k in
-    let o = ok .air p (mem-at (net .air) k zeroPacket h) in
-    well-formed-receive (removePacket k net) (well-formed-remove net ok k) (p .receiver) (p .sender) (p .serial) (p .body)
-    (record { here = o .receiver-below; there = o .sender-below; apart = o .apart; up = λ reachable. o .underway reachable .up })
-    (o .body) (λ reachable. o .underway reachable .advertised)
+  pub well-formed-deliver : (k : ℕ) (net : Network) → WellFormed Reachable net → k < length (net .air) → WellFormed Reachable (deliverBy splits k net .net)
+  unfolding deliverBy removePacket setAir
+  well-formed-deliver k net ok h =
+      let p = packetAt net k in
+      let o = ok .air p (mem-at (net .air) k zeroPacket h) in
+      well-formed-receive (removePacket k net) (well-formed-remove net ok k) (p .receiver) (p .sender) (p .serial) (p .body)
+      (record { here = o .receiver-below; there = o .sender-below; apart = o .apart; up = λ reachable. o .underway reachable .up })
+      (o .body) (λ reachable. o .underway reachable .advertised)

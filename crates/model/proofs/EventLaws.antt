@@ -13,18 +13,19 @@ use Rattle.base.specs.Lists.{tabulate}
 use Rattle.base.proofs.Loops.{tabulate-more}
 use Rattle.base.specs.Results.{accepted}
 use Rattle.base.proofs.Results.{not-turned-down, same-accepted}
+use Rattle.label.specs.Label.{Splitting, split, mediant}
 use Rattle.model.specs.Memory.{Network}
-use Rattle.model.specs.Calls.{Call, Effect, after, step, run}
+use Rattle.model.specs.Calls.{Call, Effect, after, stepBy, step, runBy, run}
 use Rattle.model.specs.Calls.{Open, Up, Down, Solicit, GiveUp, Expire, Deliver, Lose, Duplicate}
 use Rattle.model.specs.Walks.{Reached}
-use Rattle.model.specs.Events.{usesOne, notEvent, callOf, Event, calls, traces, noEvent, eventOf, eventAt, callsIn, eventLimit, notEvents, eventsOf, afterEvents, running}
+use Rattle.model.specs.Events.{usesOne, notEvent, callOf, Event, calls, traces, noEvent, eventOf, eventAt, callsIn, eventLimit, notEvents, eventsOf, afterEventsBy, afterEvents, runningBy}
 use Rattle.model.proofs.Refusals.{OnMemory}
 
 -- A list of calls and then another.
-pub run-append : (xs ys : List Call) (net : Network) → run (xs ++ ys) net ≡ run ys (run xs net)
-unfolding run
-run-append [] ys net = refl
-run-append (c ∷ xs) ys net = run-append xs ys (after net (step c net))
+pub run-append : (splits : Splitting) (xs ys : List Call) (net : Network) → runBy splits (xs ++ ys) net ≡ runBy splits ys (runBy splits xs net)
+unfolding runBy
+run-append splits [] ys net = refl
+run-append splits (c ∷ xs) ys net = run-append splits xs ys (after net (stepBy splits c net))
 
 -- A network that calls reach, they reach after more calls.
 pub reached-more : (net : Network) (more : List Call) → Reached net → Reached (run more net)
@@ -34,8 +35,9 @@ reached-more net more r = record {
   limit = r .limit;
   opened = r .opened;
   opens = r .opens;
-  calls = r .calls ++ more;
-  left = ap (run more) (r .left) ∙ sym (run-append (r .calls) more (r .opened .net));
+  earlier = r .earlier;
+  later = r .later ++ more;
+  left = ap (run more) (r .left) ∙ sym (run-append split (r .later) more (runBy mediant (r .earlier) (r .opened .net)));
 }
 
 calls-append : (xs ys : List Event) → callsIn (xs ++ ys) ≡ callsIn xs ++ callsIn ys
@@ -48,26 +50,26 @@ calls-append (noEvent ∷ xs) ys = calls-append xs ys
 -- One event more.
 pub after-more : (net : Network) (kinds operands : List ℕ) (i : ℕ)
     → afterEvents net kinds operands (i + 1) ≡ run (callsIn (eventAt kinds operands i ∷ [])) (afterEvents net kinds operands i)
-unfolding afterEvents
+unfolding afterEventsBy
 after-more net kinds operands i =
     let events = tabulate i (eventAt kinds operands) in
     let one = eventAt kinds operands i ∷ [] in
     ap (λ (l : List Event). run (callsIn l) net) (tabulate-more i (eventAt kinds operands))
     ∙ ap (λ (l : List Call). run l net) (calls-append events one)
-    ∙ run-append (callsIn events) (callsIn one) net
+    ∙ run-append split (callsIn events) (callsIn one) net
 
 -- What each event leaves.
 module _ (net : Network) where
   pub run-call : (c : Call) → run (callsIn (calls c ∷ [])) net ≡ after net (step c net)
-  unfolding run callsIn
+  unfolding runBy callsIn
   run-call c = refl
 
   pub run-trace : (a t : ℕ) → run (callsIn (traces a t ∷ [])) net ≡ net
-  unfolding run callsIn
+  unfolding runBy callsIn
   run-trace a t = refl
 
   pub run-no-event : run (callsIn (noEvent ∷ [])) net ≡ net
-  unfolding run callsIn
+  unfolding runBy callsIn
   run-no-event = refl
 
 -- An event and a call by their kind.
@@ -204,10 +206,10 @@ events-tell kinds operands h =
     (omega (arith, ltb-false eventLimit kinds (w .0)), eqb-true operands (2 * kinds) (not-false (eqb operands (2 * kinds)) (w .1)))
 
 -- A run that is accepted leaves what the calls among its events leave.
-pub running-after : (net : Network) (kinds operands : List ℕ) (room : ℕ) (e : Effect) → running net kinds operands room ≡ accepted e
-    → e .net ≡ run (callsIn (eventsOf kinds operands)) net
-unfolding running afterEvents eventsOf
-running-after net kinds operands room e h =
+pub running-after : (splits : Splitting) (net : Network) (kinds operands : List ℕ) (room : ℕ) (e : Effect) → runningBy splits net kinds operands room ≡ accepted e
+    → e .net ≡ runBy splits (callsIn (eventsOf kinds operands)) net
+unfolding runningBy afterEventsBy eventsOf
+running-after splits net kinds operands room e h =
     let (listed, a) = not-turned-down 10 _ _ e h in
     let (ranged, b) = not-turned-down 1 _ _ e a in
     let (right, c) = not-turned-down 11 _ _ e b in

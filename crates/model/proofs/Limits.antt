@@ -17,9 +17,9 @@ use Rattle.model.specs.Memory.{Request, Reply, Body, request, reply, err
 use Rattle.model.specs.Memory.{setLabels, setRows, setRecords, setLinks, setNumbers, setSoughts, setActives, setAir, setSerials, setLimit, memoryInRange}
 use Rattle.model.specs.Calls.{Call, Open, Up, Down, Solicit, GiveUp, Expire, Deliver, Lose, Duplicate}
 use Rattle.model.specs.Calls.{Effect, effect, after, usedUp, limited, notStation, notPair, notPacket}
-use Rattle.model.specs.Calls.{append, send, sending, neighbours, copies, errors, lost, parted, down, solicit, removePacket, receive, deliver, step, run}
+use Rattle.model.specs.Calls.{append, send, sending, neighbours, copies, errors, lost, parted, down, solicit, removePacket, receive, receiveBy, deliver, deliverBy, step, stepBy, run, runBy}
 use Rattle.model.specs.Calls.{recorded, replyTo, resets, atDestination, canReply, engage, onRequest}
-use Rattle.model.specs.Calls.{matches, cachedAt, adopt, settle, passesOn, passOn, onOutcome, onReply, onError, Traced, hopLimit, follow, trace}
+use Rattle.model.specs.Calls.{matches, cachedAt, adopt, settle, passesOn, passOn, onOutcome, onReply, onReplyBy, onError, Traced, hopLimit, follow, trace}
 use Rattle.model.specs.Events.{notEvent, Event, calls, traces, noEvent, noEventAnswer, eventOf, callsIn}
 use Rattle.model.specs.Printout.{line, resultLine, lineOf}
 use Rattle.model.proofs.Invariant.{well-formed-limit}
@@ -87,7 +87,7 @@ module _ (L : ℕ) where
       ap (passOn 115 i v) (settle-limit i v (adopt i j serial v g net)) ∙ pass-limit 115 i v (settle i v (adopt i j serial v g net))
 
   reply-limit : (i j serial : ℕ) (v : Reply) (net : Network) → onReply i j serial v (setLimit L net) ≡ withLimit L (onReply i j serial v net)
-  unfolding onReply matches cachedAt setLimit withLimit
+  unfolding onReplyBy matches cachedAt setLimit withLimit
   reply-limit i j serial v net =
       either (withLimit L) (eqb i (v .destination) || not (matches i v net)) refl (outcome-limit i j serial v _ net)
 
@@ -96,14 +96,14 @@ module _ (L : ℕ) where
   error-limit i j serial mask net = refl
 
   receive-limit : (i j serial : ℕ) (b : Body) (net : Network) → receive i j serial b (setLimit L net) ≡ withLimit L (receive i j serial b net)
-  unfolding receive withLimit
+  unfolding receiveBy withLimit
   receive-limit i j serial (request R) net = request-limit i j R net
   receive-limit i j serial (reply v) net = reply-limit i j serial v net
   receive-limit i j serial (error mask) net = error-limit i j serial mask net
   receive-limit i j serial (other kind) net = refl
 
   deliver-limit : (k : ℕ) (net : Network) → deliver k (setLimit L net) ≡ withLimit L (deliver k net)
-  unfolding deliver removePacket setAir setLimit
+  unfolding deliverBy removePacket setAir setLimit
   deliver-limit k net = receive-limit (packetAt net k .receiver) (packetAt net k .sender) (packetAt net k .serial) (packetAt net k .body) (removePacket k net)
 
 -- How a call ends under the limit L, from how it ends under a higher one: 7 where it would leave more than L packets.
@@ -162,7 +162,7 @@ module _ {Reachable : Type 0} (L : ℕ) (net : Network) (inv : Invariant Reachab
   adds-none e e′ q k = ap accepted q ∙ sym (within-accepted L e (omega arith))
 
   pub step-within : (c : Call) → OnMemory c → step c (setLimit L net) ≡ within L (step c net)
-  unfolding step notPair notStation notPacket setLimit withLimit setLinks setActives setRows
+  unfolding stepBy notPair notStation notPacket setLimit withLimit setLinks setActives setRows
   step-within (Open n start limit) m = absurd m
   step-within (Up a b) m =
       first-test _ _ (within-refuse L 2 _ _ _ _ refl (within-refuse L 3 _ _ _ _ refl (adds-none _ _ refl (omega arith))))
@@ -222,7 +222,7 @@ left net e = run (callsIn (e ∷ [])) net
 
 -- Its line tells the packets in the air.
 pub line-air : (index kind a b : ℕ) (net : Network) (e : Event) → lineOf index kind a b net e .air ≡ length (left net e .air)
-unfolding lineOf resultLine run callsIn after
+unfolding lineOf resultLine runBy callsIn after
 line-air index kind a b net (calls c) = go (step c net)
   where
     go : (r : Result Effect) → resultLine index kind a b net r .air ≡ length (after net r .air)
@@ -233,7 +233,7 @@ line-air index kind a b net noEvent = refl
 
 -- An event keeps the limit.
 pub event-limit : {Reachable : Type 0} (net : Network) → Invariant Reachable net → (e : Event) → Scripted e → left net e .limit ≡ net .limit
-unfolding run callsIn
+unfolding runBy callsIn
 event-limit net inv (calls c) m = step-limit net inv c m
 event-limit net inv (traces a t) m = refl
 event-limit net inv noEvent m = refl
@@ -247,7 +247,7 @@ module _ {Reachable : Type 0} (L : ℕ) (net : Network) (inv : Invariant Reachab
       rw (passed, invariant-in-range net inv) (either (λ (z : Traced). z) (notPair net a t) refl (follow-limit L (hopLimit net) 0 net a t))
 
   pub event-within : (e : Event) → Scripted e → length (left net e .air) ≤ L → left (setLimit L net) e ≡ setLimit L (left net e)
-  unfolding run callsIn after within withLimit
+  unfolding runBy callsIn after within withLimit
   event-within (calls c) m h = ap (after (setLimit L net)) (step-within L net inv fits lower c m) ∙ go (step c net) h
     where
       go : (r : Result Effect) → length (after net r .air) ≤ L → after (setLimit L net) (within L r) ≡ setLimit L (after net r)
@@ -258,7 +258,7 @@ module _ {Reachable : Type 0} (L : ℕ) (net : Network) (inv : Invariant Reachab
 
   pub line-within : (index kind a b : ℕ) (e : Event) → Scripted e → length (left net e .air) ≤ L
       → lineOf index kind a b (setLimit L net) e ≡ lineOf index kind a b net e
-  unfolding lineOf resultLine noEventAnswer run callsIn after within withLimit setLimit
+  unfolding lineOf resultLine noEventAnswer runBy callsIn after within withLimit setLimit
   line-within index kind a b (calls c) m h =
       ap (resultLine index kind a b (setLimit L net)) (step-within L net inv fits lower c m) ∙ go (step c net) h
     where

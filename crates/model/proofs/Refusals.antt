@@ -14,21 +14,22 @@ use Rattle.base.proofs.Loops.{below-length}
 use Rattle.base.specs.Numbers.{maxU32}
 use Rattle.base.specs.Results.{refused, accepted, refuse_when_otherwise_}
 use Rattle.base.proofs.Results.{refuse-holds}
+use Rattle.label.specs.Label.{Splitting, mediant}
 use Rattle.model.specs.Memory.{Packet, Network, linkUp, requestNumberAt, isActive, packetAt, setLink, setRow, setActive}
 use Rattle.model.specs.Memory.{fresh, airLimit, sizeInRange, memoryInRange}
 use Rattle.model.specs.Calls.{Call, Open, Up, Down, Solicit, GiveUp, Expire, Deliver, Lose, Duplicate}
 use Rattle.model.specs.Calls.{Effect, effect, usedUp, limited, notStation, notPair, notPacket}
-use Rattle.model.specs.Calls.{append, neighbours, copies, errors, down, solicit, removePacket, deliver, notOpening, notLimit, opening, step, run}
+use Rattle.model.specs.Calls.{append, neighbours, copies, errors, down, solicit, removePacket, deliver, notOpening, notLimit, opening, stepBy, step, runBy, run}
 use Rattle.model.specs.Walks.{Reached}
 
 -- Open.
 module _ (n start limit : ℕ) where
   pub open-1 : (net : Network) → notOpening n start ≡ true → step (Open n start limit) net ≡ refused 1
-  unfolding step opening
+  unfolding stepBy opening
   open-1 net e = refuse-holds 1 _ _ e
 
   pub open-14 : (net : Network) → notOpening n start ≡ false → notLimit limit ≡ true → step (Open n start limit) net ≡ refused 14
-  unfolding step opening refuse_when_otherwise_
+  unfolding stepBy opening refuse_when_otherwise_
   open-14 net e k = rw (e, k)
 
   pub opening-accepted : notOpening n start ≡ false → notLimit limit ≡ false → opening n start limit ≡ accepted (effect 0 0 (fresh n start limit))
@@ -36,7 +37,7 @@ module _ (n start limit : ℕ) where
   opening-accepted e k = rw (e, k)
 
   pub open-accepted : (net : Network) → notOpening n start ≡ false → notLimit limit ≡ false → step (Open n start limit) net ≡ accepted (effect 0 0 (fresh n start limit))
-  unfolding step
+  unfolding stepBy
   open-accepted net e k = opening-accepted e k
 
   -- It is turned down with the number that its tests give, or they give none.
@@ -57,15 +58,21 @@ module _ (n start limit : ℕ) where
       go false p true q = let one : openNumber ≡ 14 = rw (p, q) in inl ((λ z. omega arith), open-14 net p q ∙ ap refused (sym one))
       go false p false q = inr (record { none = rw (p, q); right = p; within = q; accepts = open-accepted net p q })
 
+  -- Opening splits no label.
+  pub open-any : (splits : Splitting) (net : Network) → stepBy splits (Open n start limit) net ≡ step (Open n start limit) net
+  unfolding stepBy
+  open-any splits net = refl
+
   -- What calls make of it is a network that a list of calls reaches.
-  pub fresh-reached : notOpening n start ≡ false → notLimit limit ≡ false → (calls : List Call) (net : Network) → net ≡ run calls (fresh n start limit) → Reached net
-  fresh-reached e k calls net h = record {
+  pub fresh-reached : notOpening n start ≡ false → notLimit limit ≡ false → (earlier later : List Call) (net : Network) → net ≡ run later (runBy mediant earlier (fresh n start limit)) → Reached net
+  fresh-reached e k earlier later net h = record {
     n = n;
     start = start;
     limit = limit;
     opened = effect 0 0 (fresh n start limit);
     opens = opening-accepted e k;
-    calls = calls;
+    earlier = earlier;
+    later = later;
     left = h;
   }
 
@@ -114,7 +121,7 @@ OnMemory (Duplicate k) = Unit {0}
 
 -- They test 1 first.
 pub out-of-range : (c : Call) (net : Network) → OnMemory c → memoryInRange net ≡ false → step c net ≡ refused 1
-unfolding step refuse_when_otherwise_
+unfolding stepBy refuse_when_otherwise_
 out-of-range (Open n start limit) net k h = absurd k
 out-of-range (Up a b) net k h = rw h
 out-of-range (Down a b) net k h = rw h
@@ -128,90 +135,90 @@ out-of-range (Duplicate k) net j h = rw h
 -- Each call by its later tests, on memory in range.
 module _ (net : Network) (r : memoryInRange net ≡ true) (a b : ℕ) where
   pub up-2 : notPair net a b ≡ true → step (Up a b) net ≡ refused 2
-  unfolding step refuse_when_otherwise_
+  unfolding stepBy refuse_when_otherwise_
   up-2 h = simp (r, h)
 
   pub up-3 : notPair net a b ≡ false → linkUp net a b ≡ true → step (Up a b) net ≡ refused 3
-  unfolding step refuse_when_otherwise_
+  unfolding stepBy refuse_when_otherwise_
   up-3 h k = simp (r, h, k)
 
   pub up-accepted : notPair net a b ≡ false → linkUp net a b ≡ false → step (Up a b) net ≡ accepted (effect 0 0 (setLink a b true net))
-  unfolding step refuse_when_otherwise_
+  unfolding stepBy refuse_when_otherwise_
   up-accepted h k = simp (r, h, k)
 
   pub down-2 : notPair net a b ≡ true → step (Down a b) net ≡ refused 2
-  unfolding step refuse_when_otherwise_
+  unfolding stepBy refuse_when_otherwise_
   down-2 h = simp (r, h)
 
   pub down-3 : notPair net a b ≡ false → linkUp net a b ≡ false → step (Down a b) net ≡ refused 3
-  unfolding step refuse_when_otherwise_
+  unfolding stepBy refuse_when_otherwise_
   down-3 h k = simp (r, h, k)
 
   pub down-limited : notPair net a b ≡ false → linkUp net a b ≡ true → step (Down a b) net ≡ limited net (down a b net)
-  unfolding step refuse_when_otherwise_
+  unfolding stepBy refuse_when_otherwise_
   down-limited h k = simp (r, h, k)
 
   pub solicit-2 : notPair net a b ≡ true → step (Solicit a b) net ≡ refused 2
-  unfolding step refuse_when_otherwise_
+  unfolding stepBy refuse_when_otherwise_
   solicit-2 h = simp (r, h)
 
   pub solicit-4 : notPair net a b ≡ false → isActive net a ≡ true → step (Solicit a b) net ≡ refused 4
-  unfolding step refuse_when_otherwise_
+  unfolding stepBy refuse_when_otherwise_
   solicit-4 h k = simp (r, h, k)
 
   pub solicit-8 : notPair net a b ≡ false → isActive net a ≡ false → leb maxU32 (requestNumberAt net a) ≡ true → step (Solicit a b) net ≡ refused 8
-  unfolding step refuse_when_otherwise_
+  unfolding stepBy refuse_when_otherwise_
   solicit-8 h k l = simp (r, h, k, l)
 
   pub solicit-limited : notPair net a b ≡ false → isActive net a ≡ false → leb maxU32 (requestNumberAt net a) ≡ false
       → step (Solicit a b) net ≡ limited net (solicit a b net)
-  unfolding step refuse_when_otherwise_
+  unfolding stepBy refuse_when_otherwise_
   solicit-limited h k l = simp (r, h, k, l)
 
   pub expire-2 : notPair net a b ≡ true → step (Expire a b) net ≡ refused 2
-  unfolding step refuse_when_otherwise_
+  unfolding stepBy refuse_when_otherwise_
   expire-2 h = simp (r, h)
 
   pub expire-accepted : notPair net a b ≡ false → step (Expire a b) net ≡ accepted (effect 0 0 (setRow a b [] net))
-  unfolding step refuse_when_otherwise_
+  unfolding stepBy refuse_when_otherwise_
   expire-accepted h = simp (r, h)
 
 module _ (net : Network) (r : memoryInRange net ≡ true) (a : ℕ) where
   pub give-up-2 : notStation net a ≡ true → step (GiveUp a) net ≡ refused 2
-  unfolding step refuse_when_otherwise_
+  unfolding stepBy refuse_when_otherwise_
   give-up-2 h = simp (r, h)
 
   pub give-up-5 : notStation net a ≡ false → isActive net a ≡ false → step (GiveUp a) net ≡ refused 5
-  unfolding step refuse_when_otherwise_
+  unfolding stepBy refuse_when_otherwise_
   give-up-5 h k = simp (r, h, k)
 
   pub give-up-accepted : notStation net a ≡ false → isActive net a ≡ true → step (GiveUp a) net ≡ accepted (effect 0 0 (setActive a false net))
-  unfolding step refuse_when_otherwise_
+  unfolding stepBy refuse_when_otherwise_
   give-up-accepted h k = simp (r, h, k)
 
 module _ (net : Network) (r : memoryInRange net ≡ true) (k : ℕ) where
   pub deliver-6 : notPacket net k ≡ true → step (Deliver k) net ≡ refused 6
-  unfolding step refuse_when_otherwise_
+  unfolding stepBy refuse_when_otherwise_
   deliver-6 h = simp (r, h)
 
   pub deliver-limited : notPacket net k ≡ false → step (Deliver k) net ≡ limited net (deliver k net)
-  unfolding step refuse_when_otherwise_
+  unfolding stepBy refuse_when_otherwise_
   deliver-limited h = simp (r, h)
 
   pub lose-6 : notPacket net k ≡ true → step (Lose k) net ≡ refused 6
-  unfolding step refuse_when_otherwise_
+  unfolding stepBy refuse_when_otherwise_
   lose-6 h = simp (r, h)
 
   pub lose-accepted : notPacket net k ≡ false → step (Lose k) net ≡ accepted (effect 0 0 (removePacket k net))
-  unfolding step refuse_when_otherwise_
+  unfolding stepBy refuse_when_otherwise_
   lose-accepted h = simp (r, h)
 
   pub duplicate-6 : notPacket net k ≡ true → step (Duplicate k) net ≡ refused 6
-  unfolding step refuse_when_otherwise_
+  unfolding stepBy refuse_when_otherwise_
   duplicate-6 h = simp (r, h)
 
   pub duplicate-limited : notPacket net k ≡ false → step (Duplicate k) net ≡ limited net (effect 0 0 (append (packetAt net k ∷ []) net))
-  unfolding step refuse_when_otherwise_
+  unfolding stepBy refuse_when_otherwise_
   duplicate-limited h = simp (r, h)
 
 -- 13 and 7, by what is told of the step: whether a station has used up its numbers, the packets in the air after it, and the limit.

@@ -10,12 +10,14 @@ use Rattle.base.proofs.Booleans.{choose}
 use Rattle.base.proofs.Lists.{mem-at}
 use Rattle.base.specs.Results.{Result, accepted, refuse_when_otherwise_}
 use Rattle.base.proofs.Results.{not-turned-down, same-accepted}
+use Rattle.label.specs.Label.{Splitting, split, KeepsOrder}
+use Rattle.label.proofs.New.{new-label-maintains}
 use Rattle.model.specs.Memory.{Network, zeroPacket, setLink, setRow, setActive, Sized}
 use Rattle.model.specs.Memory.{setRows, setLinks, setNumbers, setSoughts, setActives, setAir}
 use Rattle.model.specs.Memory.{fresh, memoryInRange}
 use Rattle.model.specs.Calls.{Call, Open, Up, Down, Solicit, GiveUp, Expire, Deliver, Lose, Duplicate}
 use Rattle.model.specs.Calls.{Effect, effect, after, limited, notPair, notPacket}
-use Rattle.model.specs.Calls.{solicit, removePacket, notOpening, notLimit, opening, step, run}
+use Rattle.model.specs.Calls.{solicit, removePacket, notOpening, notLimit, opening, stepBy, step, runBy}
 use Rattle.model.proofs.Invariant.{WellFormed, well-formed-numbers, well-formed-actives, well-formed-row, well-formed-sought, cell-empty}
 use Rattle.model.proofs.Range.{Invariant, invariant-in-range, in-range-invariant}
 use Rattle.model.proofs.Fresh.{fresh-invariant}
@@ -77,31 +79,32 @@ module _ {Reachable : Type 0} (net : Network) (inv : Invariant Reachable net) wh
       → Invariant Reachable (after net (refuse 1 when not (memoryInRange net) otherwise refuse 6 when notPacket net k otherwise r))
   invariant-packet k r h = invariant-refuse 1 _ _ (λ e. invariant-refuse 6 _ r (λ q. h (packet-tells net k q)))
 
-module _ {Reachable : Type 0} (net : Network) (inv : Invariant Reachable net) where
-  pub invariant-step : (c : Call) → Invariant Reachable (after net (step c net))
-  unfolding step opening
-  invariant-step (Open n start limit) =
+-- What New label takes maintains order, by this rule for splits.
+module _ {Reachable : Type 0} (splits : Splitting) (order : KeepsOrder splits) where
+  pub invariant-step : (net : Network) → Invariant Reachable net → (c : Call) → Invariant Reachable (after net (stepBy splits c net))
+  unfolding stepBy opening
+  invariant-step net inv (Open n start limit) =
       invariant-refuse net inv 1 _ _ (λ e. invariant-refuse net inv 14 _ _ (λ k. invariant-accept net inv _ (opening-invariant n start limit e k)))
-  invariant-step (Up a b) = invariant-pair net inv a b _ (λ ha hb. invariant-refuse net inv 3 _ _ (λ e. invariant-accept net inv _ (invariant-up _ inv a b)))
-  invariant-step (Down a b) =
+  invariant-step net inv (Up a b) = invariant-pair net inv a b _ (λ ha hb. invariant-refuse net inv 3 _ _ (λ e. invariant-accept net inv _ (invariant-up _ inv a b)))
+  invariant-step net inv (Down a b) =
       invariant-pair net inv a b _ (λ ha hb. invariant-refuse net inv 3 _ _ (λ e. invariant-limited net inv _ (well-formed-down a b _ (inv .formed) ha hb)))
-  invariant-step (Solicit a t) =
+  invariant-step net inv (Solicit a t) =
       invariant-pair net inv a t _ (λ ha ht. invariant-refuse net inv 4 _ _ (λ e. invariant-refuse net inv 8 _ _ (λ q.
       invariant-limited net inv _ (well-formed-solicit a t _ (inv .formed) ha ht))))
-  invariant-step (GiveUp a) =
+  invariant-step net inv (GiveUp a) =
       invariant-refuse net inv 1 _ _ (λ e. invariant-refuse net inv 2 _ _ (λ p. invariant-refuse net inv 5 _ _ (λ q.
       invariant-accept net inv _ (invariant-passive _ inv a))))
-  invariant-step (Expire a t) = invariant-pair net inv a t _ (λ ha ht. invariant-accept net inv _ (invariant-expire _ inv a t ha ht))
-  invariant-step (Deliver k) = invariant-packet net inv k _ (λ h. invariant-limited net inv _ (well-formed-deliver k _ (inv .formed) h))
-  invariant-step (Lose k) = invariant-packet net inv k _ (λ h. invariant-accept net inv _ (invariant-remove _ inv k))
-  invariant-step (Duplicate k) =
+  invariant-step net inv (Expire a t) = invariant-pair net inv a t _ (λ ha ht. invariant-accept net inv _ (invariant-expire _ inv a t ha ht))
+  invariant-step net inv (Deliver k) = invariant-packet net inv k _ (λ h. invariant-limited net inv _ (well-formed-deliver splits order k _ (inv .formed) h))
+  invariant-step net inv (Lose k) = invariant-packet net inv k _ (λ h. invariant-accept net inv _ (invariant-remove _ inv k))
+  invariant-step net inv (Duplicate k) =
       invariant-packet net inv k _ (λ h. invariant-limited net inv _
       (well-formed-append _ (inv .formed) _ (air-one _ (inv .formed .air _ (mem-at (net .air) k zeroPacket h)))))
 
-pub invariant-run : {Reachable : Type 0} (calls : List Call) (net : Network) → Invariant Reachable net → Invariant Reachable (run calls net)
-unfolding run
-invariant-run [] net inv = inv
-invariant-run (c ∷ calls) net inv = invariant-run calls (after net (step c net)) (invariant-step net inv c)
+  pub invariant-run : (calls : List Call) (net : Network) → Invariant Reachable net → Invariant Reachable (runBy splits calls net)
+  unfolding runBy
+  invariant-run [] net inv = inv
+  invariant-run (c ∷ calls) net inv = invariant-run calls (after net (stepBy splits c net)) (invariant-step net inv c)
 
 pub opened-invariant : {Reachable : Type 0} (n start limit : ℕ) (e : Effect) → opening n start limit ≡ accepted e → Invariant Reachable (e .net)
 unfolding opening
@@ -115,10 +118,10 @@ opened-invariant {Reachable} n start limit e h =
 module _ (net : Network) (sized : Sized net) where
   invariant-accepted : (c : Call) (e : Effect) → not (memoryInRange net) ≡ false → step c net ≡ accepted e → Invariant ⊥ (e .net)
   unfolding after
-  invariant-accepted c e t h = subst (λ z. Invariant ⊥ (after net z)) h (invariant-step net (in-range-invariant net (not-false (memoryInRange net) t) sized) c)
+  invariant-accepted c e t h = subst (λ z. Invariant ⊥ (after net z)) h (invariant-step split new-label-maintains net (in-range-invariant net (not-false (memoryInRange net) t) sized) c)
 
   accepted-invariant : (c : Call) (e : Effect) → step c net ≡ accepted e → Invariant ⊥ (e .net)
-  unfolding step
+  unfolding stepBy
   accepted-invariant (Open n start limit) e h = opened-invariant n start limit e h
   accepted-invariant (Up a b) e h = invariant-accepted (Up a b) e (not-turned-down 1 _ _ e h .0) h
   accepted-invariant (Down a b) e h = invariant-accepted (Down a b) e (not-turned-down 1 _ _ e h .0) h

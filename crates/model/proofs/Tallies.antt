@@ -9,9 +9,11 @@ use Rattle.base.specs.Lists.{tabulate}
 use Rattle.base.specs.Results.{Result, refused, accepted}
 use Rattle.base.proofs.Booleans.{Trichotomy, less, equal, more, trichotomy}
 use Rattle.base.proofs.Loops.{tabulate-same, tabulate-more}
+use Rattle.label.specs.Label.{split}
+use Rattle.label.proofs.New.{new-label-maintains}
 use Rattle.model.specs.Memory.{Network, setLimit}
-use Rattle.model.specs.Calls.{Call, Effect, after, step, run}
-use Rattle.model.specs.Events.{Event, calls, traces, noEvent, eventAt, callsIn, afterEvents}
+use Rattle.model.specs.Calls.{Call, Effect, after, step, run, runBy}
+use Rattle.model.specs.Events.{Event, calls, traces, noEvent, eventAt, callsIn, afterEvents, afterEventsBy}
 use Rattle.model.specs.Printout.{Line, LabelLine, resultLine, lineOf, isListed, labelLineAt, stationLines, labelLines, lineAt, eventLines, routeLines}
 use Rattle.model.specs.Tally.{tally, highestAir, tallyOf, SameRun, TurnedDown, HighestFits, LimitFromHighest}
 use Rattle.model.proofs.Range.{Invariant, in-range-invariant}
@@ -113,8 +115,8 @@ module _ {Reachable : Type 0} (net : Network) (inv : Invariant Reachable net) (k
   counted i = lineAt net kinds operands i .air
 
   at-invariant : (i : ℕ) → Invariant Reachable (at i)
-  unfolding afterEvents
-  at-invariant i = invariant-run (callsIn (tabulate i (eventAt kinds operands))) net inv
+  unfolding afterEventsBy
+  at-invariant i = invariant-run split new-label-maintains (callsIn (tabulate i (eventAt kinds operands))) net inv
 
   at-scripted : (i : ℕ) → Scripted (eventAt kinds operands i)
   unfolding eventAt
@@ -124,7 +126,7 @@ module _ {Reachable : Type 0} (net : Network) (inv : Invariant Reachable net) (k
   at-more i = ap (afterEvents net kinds operands) (sym (add-one i)) ∙ after-more net kinds operands i
 
   at-none : at 0 ≡ net
-  unfolding afterEvents tabulate callsIn run
+  unfolding afterEventsBy tabulate callsIn runBy
   at-none = refl
 
   at-limit : (i : ℕ) → at i .limit ≡ net .limit
@@ -154,7 +156,7 @@ module _ {Reachable : Type 0} (net : Network) (inv : Invariant Reachable net) (k
     left-fits i h = subst (λ (z : Network). length (z .air) ≤ L) (at-more i) (fitting (suc i) h)
 
     start-same : under 0 ≡ setLimit L (at 0)
-    unfolding afterEvents tabulate callsIn run
+    unfolding afterEventsBy tabulate callsIn runBy
     start-same = refl
 
     until : (i : ℕ) → Fits L i → under i ≡ setLimit L (at i)
@@ -186,7 +188,7 @@ module _ {Reachable : Type 0} (net : Network) (inv : Invariant Reachable net) (k
 
     -- The first event that leaves one more was an accepted call, and is answered 7.
     over : (highest : ℕ) → highest ≡ suc L → First (lineAt net kinds operands) (length kinds) highest → TurnedDown net kinds operands L highest
-    unfolding run callsIn after lineAt lineOf resultLine
+    unfolding runBy callsIn after lineAt lineOf resultLine
     over highest one g = go (eventAt kinds operands i) refl (at-scripted i) (omega (arith, g .reaches, count-line i, ap (λ (z : Network). length (z .air)) (at-more i)))
       where
         i : ℕ

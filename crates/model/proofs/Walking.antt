@@ -11,10 +11,11 @@ use borrow.Author.Tests.{eqb-true, eqb-false}
 use Rattle.base.specs.Lists.{isEmpty, distinct}
 use Rattle.base.proofs.Booleans.{clash, cases}
 use Rattle.base.proofs.Lists.{empty-nil, filled-not-nil, distinct-cons, pigeonhole}
-use Rattle.label.specs.Label.{inRange, _≻_}
+use Rattle.label.specs.Label.{inRange, _≻_, split, mediant}
+use Rattle.label.proofs.New.{new-label-maintains, mediant-maintains}
 use Rattle.label.proofs.Order.{≻-irreflexive, ≻-transitive, ≻-⪰-transitive}
 use Rattle.model.specs.Memory.{Row, Network, labelAt, rowAt, stations}
-use Rattle.model.specs.Calls.{Traced, nextOf, hopLimit, follow, trace}
+use Rattle.model.specs.Calls.{runBy, Traced, nextOf, hopLimit, follow, trace}
 use Rattle.model.specs.Walks.{Walk, hopsOf, GoesLower, endOf, TracersWalk, WalksEnd, LoopFree}
 use Rattle.model.proofs.Invariant.{WellFormed}
 use Rattle.model.proofs.Range.{Invariant, invariant-in-range}
@@ -172,4 +173,6 @@ module _ (net : Network) (inv : Invariant (Unit {0}) net) (a t : ℕ) (ha : a < 
 pub loop-free : LoopFree
 unfolding LoopFree
 loop-free net r a t =
-    walks-end net (subst (Invariant (Unit {0})) (sym (r .left)) (invariant-run (r .calls) (r .opened .net) (opened-invariant (r .n) (r .start) (r .limit) (r .opened) (r .opens)))) a t
+    let earlier = invariant-run mediant mediant-maintains (r .earlier) (r .opened .net) (opened-invariant (r .n) (r .start) (r .limit) (r .opened) (r .opens)) in
+    let later = invariant-run split new-label-maintains (r .later) (runBy mediant (r .earlier) (r .opened .net)) earlier in
+    walks-end net (subst (Invariant (Unit {0})) (sym (r .left)) later) a t

@@ -9,7 +9,7 @@ use Rattle.base.specs.Numbers.{maxU32, maxU64}
 use Rattle.base.specs.Lists.{someBelow, below, someIn, keep, isEmpty, removeAt}
 use Rattle.base.specs.Results.{Result, refused, accepted, refuse_when_otherwise_}
 use Rattle.label.specs.declared.Label.{Label}
-use Rattle.label.specs.Label.{label, unassigned, isUnassigned, above, Outcome, took, gave, newLabel}
+use Rattle.label.specs.Label.{label, unassigned, isUnassigned, above, Outcome, took, gave, Splitting, split, newLabelBy}
 use Rattle.model.specs.Memory.{Successor, Row, Record, Request, Reply, Body, request, reply, error, other, Packet, Network}
 use Rattle.model.specs.Memory.{place, rowIn, labelAt, rowAt, recordAt, linkUp, requestNumberAt, soughtAt, isActive, serialAt, packetAt}
 use Rattle.model.specs.Memory.{setLabel, setRows, setRow, setRecord, setLink, setNumber, setSought, setActive, setAir, setSerial}
@@ -266,10 +266,13 @@ onOutcome i j serial v (gave number) net = passOn number i v net
 onOutcome i j serial v (took g) net = passOn 115 i v (settle i v (adopt i j serial v g net))
 
 -- "111, nothing done, if i is the destination, or V's number and destination don't both match".
-unfoldable pub onReply : (i j serial : ℕ) → Reply → Network → Effect
-onReply i j serial v net =
+unfoldable pub onReplyBy : Splitting → (i j serial : ℕ) → Reply → Network → Effect
+onReplyBy splits i j serial v net =
     if eqb i (v .destination) || not (matches i v net) then effect 111 0 net
-    else onOutcome i j serial v (newLabel (labelAt net i (v .destination)) (cachedAt i v net) (v .label)) net
+    else onOutcome i j serial v (newLabelBy splits (labelAt net i (v .destination)) (cachedAt i v net) (v .label)) net
+
+abbrev pub onReply : (i j serial : ℕ) → Reply → Network → Effect
+onReply = onReplyBy split
 
 -- An error from j, of this serial number, delivered to i.
 
@@ -301,16 +304,22 @@ onError i j serial mask net =
 unfoldable pub removePacket : ℕ → Network → Network
 removePacket k net = setAir (removeAt k (net .air)) net
 
-unfoldable pub receive : (i j serial : ℕ) → Body → Network → Effect
-receive i j serial (request R) net = onRequest i j R net
-receive i j serial (reply v) net = onReply i j serial v net
-receive i j serial (error mask) net = onError i j serial mask net
-receive i j serial (other kind) net = effect 0 0 net
+unfoldable pub receiveBy : Splitting → (i j serial : ℕ) → Body → Network → Effect
+receiveBy splits i j serial (request R) net = onRequest i j R net
+receiveBy splits i j serial (reply v) net = onReplyBy splits i j serial v net
+receiveBy splits i j serial (error mask) net = onError i j serial mask net
+receiveBy splits i j serial (other kind) net = effect 0 0 net
 
-unfoldable pub deliver : ℕ → Network → Effect
-deliver k net =
+abbrev pub receive : (i j serial : ℕ) → Body → Network → Effect
+receive = receiveBy split
+
+unfoldable pub deliverBy : Splitting → ℕ → Network → Effect
+deliverBy splits k net =
     let p = packetAt net k in
-    receive (p .receiver) (p .sender) (p .serial) (p .body) (removePacket k net)
+    receiveBy splits (p .receiver) (p .sender) (p .serial) (p .body) (removePacket k net)
+
+abbrev pub deliver : ℕ → Network → Effect
+deliver = deliverBy split
 
 -- The calls. "Calls test 1, 2, 3 to 6, 8, 7." Only Down, Solicit, Deliver and Duplicate add to the air, so only they test 13 and 7; a duplicate is
 -- nobody's sending, "and a duplicate keeps it" (02, F-4), its number.
@@ -329,50 +338,57 @@ opening n start limit =
     refuse 14 when notLimit limit otherwise
     accepted (effect 0 0 (fresh n start limit))
 
-unfoldable pub step : Call → Network → Result Effect
-step (Open n start limit) net = opening n start limit
-step (Up a b) net =
+-- By a rule for splits (02, F-6). Only the delivery of a reply reads it.
+unfoldable pub stepBy : Splitting → Call → Network → Result Effect
+stepBy splits (Open n start limit) net = opening n start limit
+stepBy splits (Up a b) net =
     refuse 1 when not (memoryInRange net) otherwise
     refuse 2 when notPair net a b otherwise
     refuse 3 when linkUp net a b otherwise
     accepted (effect 0 0 (setLink a b true net))
-step (Down a b) net =
+stepBy splits (Down a b) net =
     refuse 1 when not (memoryInRange net) otherwise
     refuse 2 when notPair net a b otherwise
     refuse 3 when not (linkUp net a b) otherwise
     limited net (down a b net)
-step (Solicit a t) net =
+stepBy splits (Solicit a t) net =
     refuse 1 when not (memoryInRange net) otherwise
     refuse 2 when notPair net a t otherwise
     refuse 4 when isActive net a otherwise
     refuse 8 when leb maxU32 (requestNumberAt net a) otherwise
     limited net (solicit a t net)
-step (GiveUp a) net =
+stepBy splits (GiveUp a) net =
     refuse 1 when not (memoryInRange net) otherwise
     refuse 2 when notStation net a otherwise
     refuse 5 when not (isActive net a) otherwise
     accepted (effect 0 0 (setActive a false net))
-step (Expire a t) net =
+stepBy splits (Expire a t) net =
     refuse 1 when not (memoryInRange net) otherwise
     refuse 2 when notPair net a t otherwise
     accepted (effect 0 0 (setRow a t [] net))
-step (Deliver k) net =
+stepBy splits (Deliver k) net =
     refuse 1 when not (memoryInRange net) otherwise
     refuse 6 when notPacket net k otherwise
-    limited net (deliver k net)
-step (Lose k) net =
+    limited net (deliverBy splits k net)
+stepBy splits (Lose k) net =
     refuse 1 when not (memoryInRange net) otherwise
     refuse 6 when notPacket net k otherwise
     accepted (effect 0 0 (removePacket k net))
-step (Duplicate k) net =
+stepBy splits (Duplicate k) net =
     refuse 1 when not (memoryInRange net) otherwise
     refuse 6 when notPacket net k otherwise
     limited net (effect 0 0 (append (packetAt net k ∷ []) net))
 
+abbrev pub step : Call → Network → Result Effect
+step = stepBy split
+
 -- "Each call gets the memory that the one before it returned or left".
-unfoldable pub run : List Call → Network → Network
-run [] net = net
-run (c ∷ calls) net = run calls (after net (step c net))
+unfoldable pub runBy : Splitting → List Call → Network → Network
+runBy splits [] net = net
+runBy splits (c ∷ calls) net = runBy splits calls (after net (stepBy splits c net))
+
+abbrev pub run : List Call → Network → Network
+run = runBy split
 
 -- Trace: its answer and its hops.
 pub record Traced : Type 0 where

@@ -7,9 +7,10 @@ use lib.Dec.{ltb, eqb}
 use Rattle.base.specs.Choice.{if_then_else_}
 use Rattle.base.specs.Lists.{allBelow, tabulate}
 use Rattle.base.specs.Results.{Result, accepted, refuse_when_otherwise_}
+use Rattle.label.specs.Label.{Splitting, split}
 use Rattle.model.specs.Memory.{Network, memoryInRange}
 use Rattle.model.specs.Calls.{Call, Up, Down, Solicit, GiveUp, Expire, Deliver, Lose, Duplicate}
-use Rattle.model.specs.Calls.{Effect, effect, run}
+use Rattle.model.specs.Calls.{Effect, effect, runBy}
 
 -- 11: "kind not 1..9, or an unused operand not 0". "In 4, 6, 7, 8 b is unused".
 unfoldable pub usesOne : ℕ → Bool
@@ -71,17 +72,23 @@ notEvents kinds operands = ltb eventLimit kinds || not (eqb operands (2 * kinds)
 unfoldable pub allEvents : (kinds operands : List ℕ) → Bool
 allEvents kinds operands = allBelow (length kinds) (λ i. not (notEvent (getD kinds i 0) (getD operands (2 * i + 1) 0)))
 
--- Events one after the other, from this network.
-module _ (net : Network) (kinds operands : List ℕ) where
+-- Events one after the other, from this network, by a rule for splits.
+module _ (splits : Splitting) (net : Network) (kinds operands : List ℕ) where
   -- The network after the first i of them.
-  unfoldable pub afterEvents : ℕ → Network
-  afterEvents i = run (callsIn (tabulate i (eventAt kinds operands))) net
+  unfoldable pub afterEventsBy : ℕ → Network
+  afterEventsBy i = runBy splits (callsIn (tabulate i (eventAt kinds operands))) net
 
   -- The whole run tests 10, 1, 11, 12, as writing a script does. `room` is the length of the shortest array that it tells its numbers in.
-  unfoldable pub running : (room : ℕ) → Result Effect
-  running room =
+  unfoldable pub runningBy : (room : ℕ) → Result Effect
+  runningBy room =
       refuse 10 when notEvents (length kinds) (length operands) otherwise
       refuse 1 when not (memoryInRange net) otherwise
       refuse 11 when not (allEvents kinds operands) otherwise
       refuse 12 when ltb room (length kinds) otherwise
-      accepted (effect 0 0 (afterEvents (length kinds)))
+      accepted (effect 0 0 (afterEventsBy (length kinds)))
+
+abbrev pub afterEvents : Network → (kinds operands : List ℕ) → ℕ → Network
+afterEvents = afterEventsBy split
+
+abbrev pub running : Network → (kinds operands : List ℕ) → (room : ℕ) → Result Effect
+running = runningBy split

@@ -4,18 +4,18 @@ use mathlib.Core.Path.{_≡_, refl}
 use mathlib.Core.List.{List, [], _∷_}
 use Rattle.base.specs.Lists.{allBelow, someBelow, below, allIn, someIn, keep, isEmpty, tabulate, distinct}
 use Rattle.base.specs.Results.{refuse_when_otherwise_}
-use Rattle.label.specs.Label.{label, unassigned, isUnassigned, inRange, above, fitting, next, split, newLabel}
+use Rattle.label.specs.Label.{label, unassigned, isUnassigned, inRange, above, fitting, next, split, newLabelBy}
 use Rattle.model.specs.Memory.{zeroLabel, zeroRecord, zeroPacket, linkIn}
 use Rattle.model.specs.Memory.{setLabels, setRows, setRecords, setLinks, setNumbers, setSoughts, setActives, setAir, setSerials, freshLabels, freshRecord, fresh}
 use Rattle.model.specs.Memory.{names, without, under, replace, withRoom, put}
 use Rattle.model.specs.Memory.{successorInRange, rowInRange, recordInRange, ownInRange, cellInRange, stationInRange}
 use Rattle.model.specs.Memory.{headInRange, bodyInRange, packetInRange, airInRange, limitInRange, sizeInRange, memoryInRange}
-use Rattle.model.specs.Calls.{after, usedUp, limited, notStation, notPair, notPacket, step, run}
-use Rattle.model.specs.Calls.{append, countOn, send, sending, neighbours, copies, solicit, removePacket, receive, deliver}
+use Rattle.model.specs.Calls.{after, usedUp, limited, notStation, notPair, notPacket, stepBy, runBy}
+use Rattle.model.specs.Calls.{append, countOn, send, sending, neighbours, copies, solicit, removePacket, receiveBy, deliverBy}
 use Rattle.model.specs.Calls.{errors, maskOf, takeOut, removes, empties, emptied, between, everyDestination, lost, parted, down, bit, errorOutcome, withdrawn, onError}
 use Rattle.model.specs.Calls.{recorded, markPassed, replyTo, resets, atDestination, canReply, onwardLabel, onwardReset, onward, engage, onRequest}
-use Rattle.model.specs.Calls.{matches, cachedAt, adopt, settle, passesOn, passOn, onOutcome, onReply, nextOf, follow, trace}
-use Rattle.model.specs.Events.{usesOne, notEvent, callOf, eventOf, eventAt, callsIn, afterEvents}
+use Rattle.model.specs.Calls.{matches, cachedAt, adopt, settle, passesOn, passOn, onOutcome, onReplyBy, nextOf, follow, trace}
+use Rattle.model.specs.Events.{usesOne, notEvent, callOf, eventOf, eventAt, callsIn, afterEvents, afterEventsBy}
 use Rattle.model.specs.Printout.{Line, line, resultLine, lineOf, LabelLine, labelLine, isListed, labelLineAt, stationLines, labelLines, lineAt, eventLines, routeLines}
 use Rattle.model.specs.Tally.{tally, highestAir, tallyOf}
 
@@ -78,12 +78,12 @@ Prints limit kinds operands lines routes = (eventLines (fresh 3 1 limit) kinds o
 
 computed : Prints 128 kinds operands lines routes × Prints 128 lateKinds lateOperands lateLines routes × Prints 2 kinds operands lines routes
     × (lineAt (fresh 3 1 1) kinds operands 3 ≡ line 3 6 0 0 7 0 1 0)
-unfolding eventLines lineAt lineOf resultLine routeLines labelLines stationLines labelLineAt isListed afterEvents kinds operands lines routes lateKinds lateOperands lateLines callsIn run eventAt eventOf callOf notEvent usesOne tabulate step after refuse_when_otherwise_ usedUp limited notStation notPair notPacket sizeInRange memoryInRange stationInRange airInRange limitInRange
+unfolding eventLines lineAt lineOf resultLine routeLines labelLines stationLines labelLineAt isListed afterEventsBy kinds operands lines routes lateKinds lateOperands lateLines callsIn runBy eventAt eventOf callOf notEvent usesOne tabulate stepBy after refuse_when_otherwise_ usedUp limited notStation notPair notPacket sizeInRange memoryInRange stationInRange airInRange limitInRange
     cellInRange rowInRange recordInRange ownInRange headInRange bodyInRange packetInRange successorInRange allBelow someBelow below allIn someIn keep
-    isEmpty distinct unassigned isUnassigned inRange above fitting next split newLabel zeroLabel zeroRecord zeroPacket linkIn setLabels
+    isEmpty distinct unassigned isUnassigned inRange above fitting next split newLabelBy zeroLabel zeroRecord zeroPacket linkIn setLabels
     setRows setRecords setLinks setNumbers setSoughts setActives setAir setSerials freshLabels freshRecord fresh names without under replace withRoom
     put append countOn send sending neighbours copies solicit recorded markPassed replyTo resets atDestination canReply onwardLabel onwardReset onward
-    engage onRequest matches cachedAt adopt settle passesOn passOn onOutcome onReply removePacket receive deliver nextOf follow trace
+    engage onRequest matches cachedAt adopt settle passesOn passOn onOutcome onReplyBy removePacket receiveBy deliverBy nextOf follow trace
     errors maskOf takeOut removes empties emptied between everyDestination lost parted down bit errorOutcome withdrawn onError
 computed = ((refl, refl), (refl, refl), (refl, refl), refl)
 

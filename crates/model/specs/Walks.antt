@@ -7,9 +7,9 @@ use mathlib.Core.List.{List, [], _∷_, List·Memᴰ}
 use lib.ListN.{length}
 use Rattle.base.specs.Lists.{distinct}
 use Rattle.base.specs.Results.{accepted}
-use Rattle.label.specs.Label.{_≻_}
+use Rattle.label.specs.Label.{_≻_, mediant}
 use Rattle.model.specs.Memory.{Network, labelAt, rowAt, stations}
-use Rattle.model.specs.Calls.{Call, Effect, opening, run, Traced, nextOf, trace}
+use Rattle.model.specs.Calls.{Call, Effect, opening, runBy, run, Traced, nextOf, trace}
 
 -- "A walk from a for t .. is a chain of stations with a first, each next one taken from the row for t of the one before. It may stop anywhere
 -- and must stop at an empty row". The list holds the stations after a.
@@ -55,15 +55,17 @@ pub record WalksEnd (net : Network) (a t : ℕ) (told : Traced) : Type 0 where
   pub answers : (told .answer ≡ 131) ⊎ (told .answer ≡ 132)
   pub hops : told .hops ≡ hopsOf (a ∷ path)
 
--- "The list, empty or not, starts from the memory an accepted Open leaves": a network that some list of calls reaches.
+-- "The list, empty or not, starts from the memory an accepted Open leaves": a network that some list of calls reaches, "in every list whose calls
+-- split the old way up to some place and the new way after it" (02, F-6). The place may be the beginning.
 pub record Reached (net : Network) : Type 0 where
   pub n : ℕ
   pub start : ℕ
   pub limit : ℕ
   pub opened : Effect
   pub opens : opening n start limit ≡ accepted opened
-  pub calls : List Call
-  pub left : net ≡ run calls (opened .net)
+  pub earlier : List Call
+  pub later : List Call
+  pub left : net ≡ run later (runBy mediant earlier (opened .net))
 
 -- Demand 3, one claim about the whole list: from every accepted opening, after every list of calls, for every destination t and every other
 -- station a.

@@ -6,7 +6,7 @@ use mathlib.Core.Bool.{Bool, true, false}
 use mathlib.Core.List.{List, [], _∷_}
 use Rattle.base.specs.Results.{Result, refused, accepted}
 use Rattle.model.specs.Memory.{Network, fresh, memoryInRange}
-use Rattle.model.specs.Calls.{Call, Open, Effect, after, notOpening, notLimit, step, run, Traced, trace}
+use Rattle.model.specs.Calls.{Call, Open, Effect, after, notOpening, notLimit, step, run, runBy, Traced, trace}
 use Rattle.model.specs.Events.{eventsOf, callsIn, running}
 use Rattle.model.specs.Walks.{Reached}
 use Rattle.model.proofs.Refusals.{openNumber, Opens, open-either}
@@ -43,13 +43,13 @@ opened n start limit memory left (sent, called) = go (open-either n start limit 
 
 -- What draining leaves, the calls of its turns leave.
 drain-leaves : (b : Bool) (memory : Memory) (r : Drained) → DrainEnds b memory r → (calls : List Call) × (view (r .memory) ≡ run calls (view memory))
-unfolding run
+unfolding runBy
 drain-leaves true memory r d = (callsOf (d .turns), d .drained .calls)
 drain-leaves false memory r e = ([], ap (λ (x : Drained). view (x .memory)) e)
 
 -- What a run of events leaves, the calls among them leave, or none.
 pub run-leaves : (net : Network) (kinds operands : List ℕ) (room : ℕ) → (calls : List Call) × (after net (running net kinds operands room) ≡ run calls net)
-unfolding run after
+unfolding runBy after
 run-leaves net kinds operands room = go (running net kinds operands room) refl
   where
     go : (z : Result Effect) → running net kinds operands room ≡ z → (calls : List Call) × (after net z ≡ run calls net)
@@ -58,7 +58,7 @@ run-leaves net kinds operands room = go (running net kinds operands room) refl
 
 stepped : (c : Action) (memory : Memory) (answer : ℕ) (left : Memory) (net : Network) → view memory ≡ net → LeavesMemory c memory answer left
     → (calls : List Call) × (view left ≡ run calls net)
-unfolding run
+unfolding runBy
 stepped (call c) memory answer left net h (sent, called) =
     (c ∷ [], called-after memory (step c (view memory)) (done left answer sent) called ∙ ap (λ (x : Network). after x (step c x)) h)
 stepped (events kinds operands room) memory answer left net h called =

@@ -18,7 +18,7 @@ use Rattle.codec.proofs.ByteLaws.{sets-over}
 use Rattle.model.specs.Memory.{Network, Sized, memoryInRange}
 use Rattle.model.specs.Calls.{Effect, effect, trace}
 use Rattle.model.specs.Walks.{Reached}
-use Rattle.model.specs.Events.{eventAt, callsIn, eventLimit, notEvents, allEvents, afterEvents, running}
+use Rattle.model.specs.Events.{eventAt, callsIn, eventLimit, notEvents, allEvents, afterEvents, afterEventsBy, running, runningBy}
 use Rattle.model.specs.Printout.{lineAt, eventLines}
 use Rattle.model.specs.Tally as model
 use Rattle.model.specs.Tally.{tallyOf, HighestFits, LimitFromHighest}
@@ -67,7 +67,7 @@ module _ (memory : Memory) (kinds operands lines : List ℕ) where
   module _ (listed : notEvents (length kinds) (length operands) ≡ false) (ranged : memoryInRange (view memory) ≡ true) (right : allEvents kinds operands ≡ true) where
     tested : running (view memory) kinds operands (length lines)
         ≡ refuse 12 when ltb (length lines) (length kinds) otherwise accepted (effect 0 0 (afterEvents (view memory) kinds operands (length kinds)))
-    unfolding running
+    unfolding runningBy
     tested = refuse-passes 10 _ _ listed ∙ refuse-passes 1 _ _ (ap not ranged) ∙ refuse-passes 11 _ _ (ap not right)
 
     pub run-no-room : length lines < length kinds → (t : Tally) → tallyIn t ≡ tallyOf [] → Runs (tallied memory 12 t) lines
@@ -78,7 +78,7 @@ module _ (memory : Memory) (kinds operands lines : List ℕ) where
       left = ran-after memory kinds operands (length kinds) next ran
 
       reached : Reached (view memory) → Reached (view next)
-      unfolding afterEvents
+      unfolding afterEventsBy
       reached r = subst Reached (sym left) (reached-more (view memory) (callsIn (tabulate (length kinds) (eventAt kinds operands))) r)
 
       pub run-accepted : Sized (view memory) → length kinds ≤ length lines → lines′ ≡ sets lines 0 (tabulate (length kinds) (steps.told (view memory) kinds operands))
@@ -105,7 +105,7 @@ module _ (memory : Memory) (kinds operands lines : List ℕ) where
 
 -- The tally counts at most 4,096 events, and none where the run is turned down.
 pub tally-few : (net : Network) (kinds operands : List ℕ) (room : ℕ) → tallyOfRun net kinds operands room .calls ≤ eventLimit
-unfolding tallyOfRun linesOf mapped tallyOf eventLines running
+unfolding tallyOfRun linesOf mapped tallyOf eventLines runningBy
 tally-few net kinds operands room = go (running net kinds operands room) refl
   where
     go : (z : Result Effect) → running net kinds operands room ≡ z → tallyOf (linesOf (mapped (λ (e : Effect). eventLines net kinds operands) z)) .calls ≤ eventLimit

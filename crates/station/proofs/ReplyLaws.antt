@@ -9,7 +9,7 @@ use Rattle.label.specs.declared.Label.{Label}
 use Rattle.label.specs.Label.{Outcome, newLabel}
 use Rattle.model.specs.Memory as model
 use Rattle.model.specs.Memory.{Network, place, isActive, under, put, setLabels, setRows, setRecords, setActives, setActive}
-use Rattle.model.specs.Calls.{effect, replyTo, matches, cachedAt, adopt, settle, passesOn, passOn, onOutcome, onReply}
+use Rattle.model.specs.Calls.{effect, replyTo, matches, cachedAt, adopt, settle, passesOn, passOn, onOutcome, onReply, onReplyBy}
 use Rattle.rows.specs.declared.Successor.{Successor}
 use Rattle.rows.specs.declared.Row.{Row}
 use Rattle.rows.specs.View.{successor, successorOf, rowOf}
@@ -43,13 +43,13 @@ module _ (net : Network) (p : Packet) (h : Holding) (k : Holds net p h) where
   -- A reply that is discarded, and one that matches.
   pub reply-discarded : eqb (p .receiver) (p .destination) || not (matches (p .receiver) (replyOf p) net) ≡ true
       → effect 111 0 net ≡ onReply (p .receiver) (p .sender) (p .serial) (replyOf p) net
-  unfolding onReply replyOf
+  unfolding onReplyBy replyOf
   reply-discarded e = rw e
 
   pub reply-matched : (c : Label) (o : Outcome) → c ≡ cachedAt (p .receiver) (replyOf p) net → o ≡ newLabel (h .label) c (p .label)
       → eqb (p .receiver) (p .destination) || not (matches (p .receiver) (replyOf p) net) ≡ false
       → onOutcome (p .receiver) (p .sender) (p .serial) (replyOf p) o net ≡ onReply (p .receiver) (p .sender) (p .serial) (replyOf p) net
-  unfolding onReply replyOf
+  unfolding onReplyBy replyOf
   reply-matched c o q d e = rw (d, q, k .label-is, e)
 
   -- A reply that is passed on, and one that is not.

@@ -14,7 +14,7 @@ use Rattle.label.specs.declared.Label.{Label}
 use Rattle.model.specs.Memory as model
 use Rattle.model.specs.Memory.{place, setLabels, setRows, setRecords, setActives, setAir, setSerials}
 use Rattle.model.specs.Calls.{Deliver, Effect, effect, limited, append, countOn, send, sending, errors, takeOut, removes, emptied, bit}
-use Rattle.model.specs.Calls.{withdrawn, errorOutcome, onError, removePacket, receive, deliver, step}
+use Rattle.model.specs.Calls.{withdrawn, errorOutcome, onError, removePacket, receive, receiveBy, deliver, deliverBy, step}
 use Rattle.model.specs.Events.{calls, eventOf}
 use Rattle.model.proofs.Refusals.{deliver-limited}
 use Rattle.model.proofs.Serials.{used-one, sending-length}
@@ -73,7 +73,7 @@ module _ {memory : Memory} {packets : List Packet} {count kind a b r : ℕ} (h :
   flying = setAir rest (view m)
 
   pub delivered : step (Deliver a) (view m) ≡ limited (view m) (receive (p .receiver) (p .sender) (p .serial) (bodyOf p) flying)
-  unfolding Passes deliver removePacket view packetOf
+  unfolding Passes deliverBy removePacket view packetOf
   delivered =
       deliver-limited (view m) (h .ranged) a (delivers .1)
       ∙ ap (limited (view m)) (rw (packets-at packets count a model.zeroPacket (arrives .0), arrives .1))
@@ -124,7 +124,7 @@ module _ {memory : Memory} {packets : List Packet} {count kind a b r : ℕ} (h :
     telling = sending (errorOutcome (losses .removed) (losses .emptied)) (p .receiver) told-on after-error
 
     pub error-steps : step (Deliver a) (view m) ≡ limited (view m) telling
-    unfolding receive onError view setAir
+    unfolding receiveBy onError view setAir
     error-steps = delivered ∙ ap (limited (view m)) (rw (body-error p is-error, removed-is, gone-is))
 
     pub error-does : Does m (eventOf kind a b) (leb maxU64 (getD (memory .serials) (p .receiver) 0) && ltb 0 (length told-on)) (count - 1 + length told-on) telling

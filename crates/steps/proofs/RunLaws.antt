@@ -13,8 +13,8 @@ use Rattle.base.proofs.Booleans.{clash, Trichotomy, less, equal, more, trichoto
 use Rattle.base.proofs.Loops.{tabulate-length, tabulate-more}
 use Rattle.codec.proofs.ByteLaws.{sets-next}
 use Rattle.model.specs.Memory.{memoryInRange, airLimit, Sized}
-use Rattle.model.specs.Calls.{run}
-use Rattle.model.specs.Events.{eventOf, eventAt, callsIn, eventLimit, afterEvents}
+use Rattle.model.specs.Calls.{run, runBy}
+use Rattle.model.specs.Events.{eventOf, eventAt, callsIn, eventLimit, afterEvents, afterEventsBy}
 use Rattle.model.specs.Printout.{Line, line, lineAt}
 use Rattle.model.proofs.Range.{Invariant, in-range-invariant}
 use Rattle.model.proofs.EventLaws.{after-more}
@@ -100,7 +100,7 @@ module _ (memory : Memory) (kinds operands : List ℕ) where
       ap (λ (m : Memory). memoryInRange (view m)) e ∙ happens-in-range before (eventAt kinds operands i) r happens (ran-in-range i before ran h)
 
   pub ran-after : (i : ℕ) (last : Memory) → Ran memory kinds operands i last → view last ≡ afterEvents (view memory) kinds operands i
-  unfolding Ran afterEvents tabulate callsIn run
+  unfolding Ran afterEventsBy tabulate callsIn runBy
   ran-after zero last e = ap view e
   ran-after (suc i) last (before, r, ran, happens, e) =
       ap view e ∙ happens-after before (eventAt kinds operands i) r happens

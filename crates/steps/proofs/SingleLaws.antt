@@ -5,8 +5,8 @@ use mathlib.Core.List.{List, [], _∷_}
 use lib.ListN.{getD}
 use native.Mathlib.Omega.{arith}
 use Rattle.base.specs.Lists.{tabulate}
-use Rattle.model.specs.Calls.{run}
-use Rattle.model.specs.Events.{eventAt, callsIn, afterEvents}
+use Rattle.model.specs.Calls.{run, runBy}
+use Rattle.model.specs.Events.{eventAt, callsIn, afterEvents, afterEventsBy}
 use Rattle.model.specs.Printout.{Line, line, lineAt}
 use Rattle.network.specs.declared.Memory.{Memory}
 use Rattle.network.specs.View.{view}
@@ -23,7 +23,7 @@ Reads number read r = (answer sent air hops : ℕ) → Fits answer sent air hops
 module _ (memory : Memory) (kinds operands : List ℕ) where
   first-line : (r : Happened) → Happens memory (eventAt kinds operands 0) r
       → lineAt (view memory) kinds operands 0 ≡ line 0 (getD kinds 0 0) (getD operands 0 0) (getD operands 1 0) (r .answer) (r .sent) (r .memory .air .count) (r .hops)
-  unfolding lineAt afterEvents tabulate callsIn run
+  unfolding lineAt afterEventsBy tabulate callsIn runBy
   first-line r h = happens-line memory 0 (getD kinds 0 0) (getD operands 0 0) (getD operands 1 0) (eventAt kinds operands 0) r h
 
   -- The event gave what is read of the number that tells of it.

@@ -2,7 +2,7 @@
 use mathlib.Core.Path.{refl}
 use borrow.Author.Needs.{needs}
 use borrow.Author.Tests.{lt-ltb, le-ltb}
-use Rattle.model.specs.Calls.{Open, step}
+use Rattle.model.specs.Calls.{Open, step, stepBy}
 use Rattle.layout.specs.Meaning.{tooShort}
 use Rattle.console.specs.Console.{Leaves, tellingCall, Ends}
 use Rattle.console.proofs.ConsoleLaws.{calling-short, calling-long, ends-finished}
@@ -28,7 +28,7 @@ same-length : tie.Need-same-length
 same-length c = search needs
 
 returns-2 : tie.Need-returns-2
-unfolding tooShort step
+unfolding tooShort stepBy
 returns-2 c =
     let call = c .before .before .before in
     let past = call .before .before .before in

@@ -8,7 +8,7 @@ use borrow.Author.Needs.{needs}
 use Rattle.base.proofs.Booleans.{clash, not-was-true, not-was-false}
 use Rattle.base.proofs.Results.{refuse-holds, refuse-passes}
 use Rattle.model.specs.Memory.{memoryInRange}
-use Rattle.model.specs.Events.{notEvents, allEvents, running}
+use Rattle.model.specs.Events.{notEvents, allEvents, running, runningBy}
 use Rattle.model.specs.Tally.{tallyOf}
 use Rattle.model.proofs.EventLaws.{events-tell}
 use Rattle.network.specs.View.{view}
@@ -43,14 +43,14 @@ not-events-requires : tie.Need-not-events-requires
 not-events-requires c κs = search needs
 
 returns : tie.Need-returns
-unfolding running
+unfolding runningBy
 returns c = run-refused _ _ _ _ 10 _ (omega arith) (λ z. omega arith) (refuse-holds 10 _ _ (sym (c .before .not-events .ensures) ∙ c .if1 .taken)) _ (none (c .before .before))
 
 in-range-requires : tie.Need-in-range-requires
 in-range-requires c κs = search needs
 
 returns-2 : tie.Need-returns-2
-unfolding running
+unfolding runningBy
 returns-2 c =
     run-refused _ _ _ _ 1 _ (omega arith) (λ z. omega arith) (refuse-passes 10 _ _ (listed (c .before .before))
     ∙ refuse-holds 1 _ _ (ap not (not-was-false _ _ (c .before .in-range .ensures) (c .if2 .taken)))) _ (none (c .before .before .before .before))
@@ -59,7 +59,7 @@ all-events-requires : tie.Need-all-events-requires
 all-events-requires c κs = let w = events-tell _ _ (listed (c .before .before)) in omega (arith, w .1)
 
 returns-3 : tie.Need-returns-3
-unfolding running
+unfolding runningBy
 returns-3 c =
     let past = c .before .before in
     run-refused _ _ _ _ 11 _ (omega arith) (λ z. omega arith) (refuse-passes 10 _ _ (listed (past .before .before)) ∙ refuse-passes 1 _ _ (ap not (ranged past))
