@@ -10,12 +10,12 @@ use native.Mathlib.Omega.{arith}
 use borrow.Author.Tests.{lt-leb}
 use Rattle.base.specs.Results.{Result, refused, accepted}
 use Rattle.base.proofs.Results.{refuse-holds, refuse-passes, not-accepted, same-accepted, same-refused, not-turned-down}
+use Rattle.label.specs.Label.{split}
+use Rattle.label.proofs.New.{new-label-maintains}
 use Rattle.model.specs.Memory.{Body, request, reply, error, other, Packet, Network, packetAt, setAir}
 use Rattle.model.specs.Calls.{Deliver, Lose, Effect, effect, usedUp, limited, notPacket, removePacket, deliver, step}
-use Rattle.model.specs.Walks.{Reached}
 use Rattle.model.proofs.Range.{Invariant, invariant-in-range, in-range-invariant}
 use Rattle.model.proofs.Refusals.{deliver-limited, lose-accepted}
-use Rattle.model.proofs.EventLaws.{reached-more}
 use Rattle.model.proofs.Steps.{invariant-run}
 use Rattle.draining.specs.Draining.{Turn, delivery, loss, losesPacket, TurnLeaves, Turns, Drains, turnLimit, callsOf, Drained, AllDrain}
 use Rattle.draining.proofs.Sums.{in-most, in-least}
@@ -108,10 +108,10 @@ module _ (net : Network) (kept : Invariant ⊥ net) (h : 0 < length (net .air)) 
       sym (same-accepted same)
 
   -- One of the two turns is made.
-  some-turn : (turn : Turn) × (left : Network) × TurnLeaves turn net left
+  some-turn : (turn : Turn) × (left : Network) × TurnLeaves split turn net left
   some-turn = go (step (Deliver 0) net) refl
     where
-      go : (z : Result Effect) → step (Deliver 0) net ≡ z → (turn : Turn) × (left : Network) × TurnLeaves turn net left
+      go : (z : Result Effect) → step (Deliver 0) net ≡ z → (turn : Turn) × (left : Network) × TurnLeaves split turn net left
       go (accepted e) q = (delivery, e .net, (e, q, refl))
       go (refused number) q = (loss, removePacket 0 net, (number, effect 0 0 (removePacket 0 net), q, delivers-or-loses number q, lose-first, refl))
 
@@ -130,7 +130,7 @@ module _ (net : Network) (kept : Invariant ⊥ net) (h : 0 < length (net .air)) 
       air = air-removed net (kept .formed) ids o h;
     }
 
-    turn-lowers : (turn : Turn) (left : Network) → TurnLeaves turn net left → Lower left
+    turn-lowers : (turn : Turn) (left : Network) → TurnLeaves split turn net left → Lower left
     turn-lowers delivery left (e, accepts, is) =
         let s = spent-delivery net (kept .formed) ids o h most t in
         subst Lower (sym (is ∙ ap (λ (x : Effect). x .net) (delivered e accepts))) (record { size = s .size; left-over = s .left; air = s .air })
@@ -139,7 +139,7 @@ module _ (net : Network) (kept : Invariant ⊥ net) (h : 0 < length (net .air)) 
 
 -- Draining so far: these turns were made from the start, and leave this network.
 pub record Draining (start : Network) (turns : List Turn) (net : Network) : Type 0 where
-  pub turned : Turns turns start net
+  pub turned : Turns split turns start net
   pub kept : Invariant ⊥ net
   pub size : net .n ≡ start .n
   pub air : AirOf (idsIn (start .air)) (net .air)
@@ -160,13 +160,13 @@ module _ (start : Network) (begins : Invariant ⊥ start) where
         let packets = in-least (packetCredit (net .n)) (net .air) (λ p. body-least (net .n) (omega (arith, d .kept .formed .low)) (p .body)) in
         omega (arith, d .left)
 
-    pub draining-more : 0 < length (net .air) → (turn : Turn) (left : Network) → TurnLeaves turn net left → Draining start (turns ++ (turn ∷ [])) left
+    pub draining-more : 0 < length (net .air) → (turn : Turn) (left : Network) → TurnLeaves split turn net left → Draining start (turns ++ (turn ∷ [])) left
     draining-more h turn left leaves =
         let some = turn-left h in
         let l = turn-lowers net (d .kept) h (idsIn (start .air)) (d .air) (potential (net .n) (idsIn (start .air)) net - 1) (omega arith) turn left leaves in
         record {
           turned = turns-more turns start net left (d .turned) turn leaves;
-          kept = subst (Invariant ⊥) (sym (turns-run (turn ∷ []) net left (left, leaves, refl))) (invariant-run (callsOf (turn ∷ [])) net (d .kept));
+          kept = subst (Invariant ⊥) (sym (turns-run (turn ∷ []) net left (left, leaves, refl))) (invariant-run split new-label-maintains (callsOf (turn ∷ [])) net (d .kept));
           size = l .size ∙ d .size;
           air = l .air;
           left = subst (λ (n : ℕ). potential n (idsIn (start .air)) left + length (turns ++ (turn ∷ [])) ≤ turnLimit (start .n) (length (start .air))) (sym (l .size))
@@ -174,32 +174,30 @@ module _ (start : Network) (begins : Invariant ⊥ start) where
         }
 
     -- With none in the air it has ended.
-    pub draining-ends : net .air ≡ [] → Drained start turns net
+    pub draining-ends : net .air ≡ [] → Drained split start turns net
     draining-ends e =
-        let drains : Drains turns start net = record { turned = d .turned; empty = e } in
-        let is = turns-run turns start net (d .turned) in
+        let drains : Drains split turns start net = record { turned = d .turned; empty = e } in
         record {
           drains = drains;
           only = λ turns′ left′ other. drains-only turns turns′ start net left′ drains other;
           bounded = omega (arith, turns-count turns, d .left);
           largest = omega (arith, limit-largest, most-turns);
           in-range = invariant-in-range net (d .kept);
-          calls = is;
-          reached = λ r. subst Reached (sym is) (reached-more start (callsOf turns) r);
+          calls = turns-run turns start net (d .turned);
         }
 
   -- It has ended, or goes on.
-  over : {turns : List Turn} {net : Network} → (0 < length (net .air) → (all : List Turn) × (left : Network) × Drained start all left) → Draining start turns net
-      → (all : List Turn) × (left : Network) × Drained start all left
+  over : {turns : List Turn} {net : Network} → (0 < length (net .air) → (all : List Turn) × (left : Network) × Drained split start all left) → Draining start turns net
+      → (all : List Turn) × (left : Network) × Drained split start all left
   over {turns} {net} on d = go (net .air) refl
     where
-      go : (air : List Packet) → net .air ≡ air → (all : List Turn) × (left : Network) × Drained start all left
+      go : (air : List Packet) → net .air ≡ air → (all : List Turn) × (left : Network) × Drained split start all left
       go [] e = (turns, net, draining-ends d e)
       go (p ∷ air) e = on (rw e (omega arith))
 
   -- So many turns at most are left.
   ends : (c : ℕ) (turns : List Turn) (net : Network) → Draining start turns net → turnLimit (start .n) (length (start .air)) ≤ length turns + c
-      → (all : List Turn) × (left : Network) × Drained start all left
+      → (all : List Turn) × (left : Network) × Drained split start all left
   ends zero turns net d most = over (λ h. absurd (omega (arith, turn-left d h))) d
   ends (suc c) turns net d most =
       over (λ h.

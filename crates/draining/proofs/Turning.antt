@@ -10,14 +10,15 @@ use borrow.Author.Tests.{eqb-true}
 use Rattle.base.specs.Results.{refused, isRefusal}
 use Rattle.base.proofs.Booleans.{clash}
 use Rattle.base.proofs.Results.{not-accepted, same-accepted, same-refused}
+use Rattle.label.specs.Label.{split}
 use Rattle.model.specs.Memory.{Network, memoryInRange}
-use Rattle.model.specs.Calls.{Deliver, Lose, Effect, after, notPacket, step, run, runBy}
+use Rattle.model.specs.Calls.{Deliver, Lose, Effect, after, notPacket, step, runBy, run}
 use Rattle.model.proofs.Refusals.{out-of-range, deliver-6}
 use Rattle.draining.specs.Draining.{Turn, delivery, loss, losesPacket, TurnLeaves, Turns, Drains, deliveriesIn, lossesIn, callsOf}
 
 -- One more turn.
-pub turns-more : (turns : List Turn) (before next left : Network) → Turns turns before next → (turn : Turn) → TurnLeaves turn next left → Turns (turns ++ (turn ∷ [])) before left
-turns-more [] before next left e turn t = (left, subst (λ net. TurnLeaves turn net left) e t, refl)
+pub turns-more : (turns : List Turn) (before next left : Network) → Turns split turns before next → (turn : Turn) → TurnLeaves split turn next left → Turns split (turns ++ (turn ∷ [])) before left
+turns-more [] before next left e turn t = (left, subst (λ net. TurnLeaves split turn net left) e t, refl)
 turns-more (x ∷ turns) before next left (first, h, rest) turn t = (first, h, turns-more turns first next left rest turn t)
 
 pub delivery-more : (turns : List Turn) → (deliveriesIn (turns ++ (delivery ∷ [])) ≡ suc (deliveriesIn turns)) × (lossesIn (turns ++ (delivery ∷ [])) ≡ lossesIn turns)
@@ -40,7 +41,7 @@ turns-count (delivery ∷ turns) = omega (arith, turns-count turns)
 turns-count (loss ∷ turns) = omega (arith, turns-count turns)
 
 -- Turns are their calls.
-pub turns-run : (turns : List Turn) (before left : Network) → Turns turns before left → left ≡ run (callsOf turns) before
+pub turns-run : (turns : List Turn) (before left : Network) → Turns split turns before left → left ≡ run (callsOf turns) before
 unfolding callsOf runBy after
 turns-run [] before left e = e
 turns-run (delivery ∷ turns) before left (next, (e, accepts, is), rest) =
@@ -69,14 +70,14 @@ module _ (net : Network) (empty : net .air ≡ []) where
       go true e = (6, deliver-6 net e 0 (rw empty), refl)
       go false e = (1, out-of-range (Deliver 0) net tt e, refl)
 
-  pub no-turn : {A : Type 0} (turn : Turn) (left : Network) → TurnLeaves turn net left → A
+  pub no-turn : {A : Type 0} (turn : Turn) (left : Network) → TurnLeaves split turn net left → A
   no-turn delivery left (e, accepts, is) = let (number, refuses, kept) = not-lost in not-accepted (sym refuses ∙ accepts)
   no-turn loss left (number, e, refuses, lost, accepts, is) =
       let (other, turns-down, kept) = not-lost in
       clash lost (ap losesPacket (same-refused (sym refuses ∙ turns-down)) ∙ kept)
 
 -- A turn is the only one, and leaves one network.
-turn-only : (t u : Turn) (net a b : Network) → TurnLeaves t net a → TurnLeaves u net b → (t ≡ u) × (a ≡ b)
+turn-only : (t u : Turn) (net a b : Network) → TurnLeaves split t net a → TurnLeaves split u net b → (t ≡ u) × (a ≡ b)
 turn-only delivery delivery net a b (e, accepts, is) (f, accepts′, is′) =
     (refl, is ∙ ap (λ (x : Effect). x .net) (same-accepted (sym accepts ∙ accepts′)) ∙ sym is′)
 turn-only delivery loss net a b (e, accepts, is) (number, f, refuses, lost, accepts′, is′) = not-accepted (sym refuses ∙ accepts)
@@ -85,7 +86,7 @@ turn-only loss loss net a b (number, e, refuses, lost, accepts, is) (number′, 
     (refl, is ∙ ap (λ (x : Effect). x .net) (same-accepted (sym accepts ∙ accepts′)) ∙ sym is′)
 
 -- So the repetition is the only one.
-pub drains-only : (turns turns′ : List Turn) (net left left′ : Network) → Drains turns net left → Drains turns′ net left′ → (turns′ ≡ turns) × (left′ ≡ left)
+pub drains-only : (turns turns′ : List Turn) (net left left′ : Network) → Drains split turns net left → Drains split turns′ net left′ → (turns′ ≡ turns) × (left′ ≡ left)
 drains-only [] [] net left left′ d d′ = (refl, d′ .turned ∙ sym (d .turned))
 drains-only [] (t ∷ turns′) net left left′ d d′ =
     let (next, leaves, rest) = d′ .turned in
@@ -98,5 +99,5 @@ drains-only (t ∷ turns) (u ∷ turns′) net left left′ d d′ =
     let (next′, leaves′, rest′) = d′ .turned in
     let same = turn-only t u net next next′ leaves leaves′ in
     let more = drains-only turns turns′ next left left′ (record { turned = rest; empty = d .empty })
-    (record { turned = subst (λ x. Turns turns′ x left′) (sym (same .1)) rest′; empty = d′ .empty }) in
+    (record { turned = subst (λ x. Turns split turns′ x left′) (sym (same .1)) rest′; empty = d′ .empty }) in
     (ap₂ (λ (x : Turn) (y : List Turn). x ∷ y) (sym (same .0)) (more .0), more .1)

@@ -6,9 +6,9 @@ use mathlib.Core.List.{List, [], _∷_}
 use lib.ListN.{length}
 use lib.Dec.{eqb}
 use Rattle.base.specs.Results.{refused, accepted}
+use Rattle.label.specs.Label.{Splitting, split}
 use Rattle.model.specs.Memory.{Network, memoryInRange, Sized}
-use Rattle.model.specs.Calls.{Call, Open, Deliver, Lose, Effect, step, run}
-use Rattle.model.specs.Walks.{Reached}
+use Rattle.model.specs.Calls.{Call, Open, Deliver, Lose, Effect, stepBy, runBy}
 
 -- A turn of the repetition: packet 0 is delivered, or it is lost.
 pub data Turn : Type 0 where
@@ -18,21 +18,24 @@ pub data Turn : Type 0 where
 unfoldable pub losesPacket : ℕ → Bool
 losesPacket number = eqb number 7 || eqb number 13
 
--- "delivers packet 0 .., and loses it where Deliver gives 7": such a turn on the network before it leaves this one.
-abbrev pub TurnLeaves : Turn → (before left : Network) → Type 0
-TurnLeaves delivery before left = (e : Effect) × (step (Deliver 0) before ≡ accepted e) × (left ≡ e .net)
-TurnLeaves loss before left =
-    (number : ℕ) × (e : Effect) × (step (Deliver 0) before ≡ refused number) × (losesPacket number ≡ true) × (step (Lose 0) before ≡ accepted e) × (left ≡ e .net)
+-- The plain repetition, by a rule for splits (02, F-6).
+module _ (splits : Splitting) where
+  -- "delivers packet 0 .., and loses it where Deliver gives 7": such a turn on the network before it leaves this one.
+  abbrev pub TurnLeaves : Turn → (before left : Network) → Type 0
+  TurnLeaves delivery before left = (e : Effect) × (stepBy splits (Deliver 0) before ≡ accepted e) × (left ≡ e .net)
+  TurnLeaves loss before left =
+      (number : ℕ) × (e : Effect) × (stepBy splits (Deliver 0) before ≡ refused number) × (losesPacket number ≡ true)
+      × (stepBy splits (Lose 0) before ≡ accepted e) × (left ≡ e .net)
 
--- ".. again and again".
-abbrev pub Turns : List Turn → (before left : Network) → Type 0
-Turns [] before left = left ≡ before
-Turns (turn ∷ turns) before left = (next : Network) × TurnLeaves turn before next × Turns turns next left
+  -- ".. again and again".
+  abbrev pub Turns : List Turn → (before left : Network) → Type 0
+  Turns [] before left = left ≡ before
+  Turns (turn ∷ turns) before left = (next : Network) × TurnLeaves turn before next × Turns turns next left
 
--- ".. until the air is empty": the plain repetition, from the network before it, makes these turns and leaves this one.
-pub record Drains (turns : List Turn) (before left : Network) : Type 0 where
-  pub turned : Turns turns before left
-  pub empty : left .air ≡ []
+  -- ".. until the air is empty": the plain repetition, from the network before it, makes these turns and leaves this one.
+  pub record Drains (turns : List Turn) (before left : Network) : Type 0 where
+    pub turned : Turns turns before left
+    pub empty : left .air ≡ []
 
 -- "It returns deliveries and losses."
 unfoldable pub deliveriesIn : List Turn → ℕ
@@ -55,19 +58,18 @@ callsOf [] = []
 callsOf (delivery ∷ turns) = Deliver 0 ∷ callsOf turns
 callsOf (loss ∷ turns) = Deliver 0 ∷ Lose 0 ∷ callsOf turns
 
--- What F-3 asks of the repetition from this network, which made these turns and left that network.
-pub record Drained (net : Network) (turns : List Turn) (left : Network) : Type 0 where
+-- What F-3 asks of the repetition from this network, by a rule for splits, which made these turns and left that network.
+pub record Drained (splits : Splitting) (net : Network) (turns : List Turn) (left : Network) : Type 0 where
   -- "The counts equal the steps of the plain repetition", and of no other.
-  pub drains : Drains turns net left
-  pub only : (turns′ : List Turn) (left′ : Network) → Drains turns′ net left′ → (turns′ ≡ turns) × (left′ ≡ left)
+  pub drains : Drains splits turns net left
+  pub only : (turns′ : List Turn) (left′ : Network) → Drains splits turns′ net left′ → (turns′ ≡ turns) × (left′ ≡ left)
   -- "the two counts together are at most ..".
   pub bounded : deliveriesIn turns + lossesIn turns ≤ turnLimit (net .n) (length (net .air))
   -- ".., which is 69,136 for n = 16 and p = 128": no memory has a larger bound.
   pub largest : turnLimit (net .n) (length (net .air)) ≤ turnLimit 16 128
   pub in-range : memoryInRange left ≡ true
   -- "Walks after it are bounded as after the single calls": it is a list of these.
-  pub calls : left ≡ run (callsOf turns) net
-  pub reached : Reached net → Reached left
+  pub calls : left ≡ runBy splits (callsOf turns) net
 
 -- What lists of calls are made of (01, "The list in demand 3"): the calls of 01, draining the air, and runs of events, which tell their lines in an
 -- array of this length.
@@ -81,4 +83,4 @@ opens n start limit = call (Open n start limit)
 
 -- F-3: the repetition ends, from every memory in range, whatever made it.
 unfoldable pub AllDrain : Type 0
-AllDrain = (net : Network) → Sized net → memoryInRange net ≡ true → (turns : List Turn) × (left : Network) × Drained net turns left
+AllDrain = (net : Network) → Sized net → memoryInRange net ≡ true → (turns : List Turn) × (left : Network) × Drained split net turns left
