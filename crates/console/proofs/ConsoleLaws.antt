@@ -9,8 +9,9 @@ use Rattle.base.specs.Results.{Result, refused, accepted, isRefusal}
 use Rattle.base.proofs.Booleans.{clash}
 use Rattle.base.proofs.Results.{refuse-holds, refuse-passes, not-accepted, Satisfies, refuses, accepts}
 use Rattle.codec.specs.Bytes.{over}
+use Rattle.label.specs.Label.{Splitting, split}
 use Rattle.model.specs.Memory.{Network, airLimit, memoryInRange}
-use Rattle.model.specs.Calls.{Call, Effect, step}
+use Rattle.model.specs.Calls.{Call, Effect, stepBy, step}
 use Rattle.model.proofs.Range.{Invariant, in-range-invariant}
 use Rattle.model.proofs.Refusals.{OnMemory, out-of-range}
 use Rattle.model.proofs.Answers.{refused-tells, accepted-tells}
@@ -25,26 +26,27 @@ use Rattle.layout.proofs.ReadBack.{stored-back}
 use Rattle.steps.specs.declared.Done.{Done}
 use Rattle.steps.specs.Called.{Called}
 use Rattle.console.specs.Packed.{packed, answerOf, countOf}
-use Rattle.console.specs.Console.{calling, Stores, Leaves, tellingCall, Ends}
+use Rattle.console.specs.Console.{callingBy, calling, Stores, Leaves, tellingCall, Ends}
 use Rattle.console.specs.Contracts.{Finished}
 
 -- A call by how it begins.
-module _ (c : Call) (bytes : List ℕ) where
-  pub calling-short : tooShort bytes ≡ true → calling c bytes ≡ refused 1
-  unfolding calling
+module _ (splits : Splitting) (c : Call) (bytes : List ℕ) where
+  pub calling-short : tooShort bytes ≡ true → callingBy splits c bytes ≡ refused 1
+  unfolding callingBy
   calling-short h = refuse-holds 1 _ _ h
 
-  pub calling-long : tooShort bytes ≡ false → calling c bytes ≡ step c (storedNetwork bytes)
-  unfolding calling
+  pub calling-long : tooShort bytes ≡ false → callingBy splits c bytes ≡ stepBy splits c (storedNetwork bytes)
+  unfolding callingBy
   calling-long h = refuse-passes 1 _ _ h
 
+module _ (c : Call) (bytes : List ℕ) where
   -- A call on memory: too few bytes hold memory out of range.
   pub calling-step : OnMemory c → calling c bytes ≡ step c (storedNetwork bytes)
   calling-step on = go (tooShort bytes) refl
     where
       go : (b : Bool) → tooShort bytes ≡ b → calling c bytes ≡ step c (storedNetwork bytes)
-      go true e = calling-short e ∙ sym (out-of-range c (storedNetwork bytes) on (stored-none bytes (short-not-memory bytes e)))
-      go false e = calling-long e
+      go true e = calling-short split c bytes e ∙ sym (out-of-range c (storedNetwork bytes) on (stored-none bytes (short-not-memory bytes e)))
+      go false e = calling-long split c bytes e
 
 -- What is written is memory, and reads back.
 module _ (net : Network) (fits : NetworkFits net) (ranged : memoryInRange net ≡ true) (bytes bytes′ : List ℕ)

@@ -7,6 +7,7 @@ use mathlib.Core.List.{List}
 use lib.ListN.{length}
 use native.Mathlib.Omega.{arith}
 use Rattle.codec.specs.Bytes.{over}
+use Rattle.label.specs.Label.{split}
 use Rattle.model.specs.Memory.{Network, memoryInRange}
 use Rattle.draining.specs.Draining as draining
 use Rattle.draining.specs.Draining.{drain}
@@ -22,13 +23,13 @@ use Rattle.steps.specs.declared.Drained.{Drained}
 use Rattle.steps.specs.Drained.{DrainedTo, DrainEnds}
 use Rattle.console.specs.Packed.{packedTwo, shortAnswerOf, firstOf, secondOf}
 use Rattle.console.specs.Showing.{outOfRange}
-use Rattle.console.specs.Draining.{DrainsBy, DrainsBytes}
+use Rattle.console.specs.Draining.{DrainsWhen, DrainsBytes}
 use Rattle.console.specs.Made.{MadeBytes}
 use Rattle.console.proofs.ConsoleLaws.{written-stores}
 use Rattle.console.proofs.MadeLaws.{AllWalksEnd, left-loop-free}
 
 -- The counts fit their places, and are read back.
-pub drained-few : {memory : Memory} {d : Drained} → DrainedTo memory d → (d .deliveries < 16_777_216) × (d .losses < 16_777_216)
+pub drained-few : {memory : Memory} {d : Drained} → DrainedTo split memory d → (d .deliveries < 16_777_216) × (d .losses < 16_777_216)
 drained-few t =
     let most = t .drained .bounded in
     let few = t .drained .largest in
@@ -39,28 +40,28 @@ unpacked-two first second h = (omega arith, omega arith, omega arith)
 
 module _ (memory : Memory) (d : Drained) where
   -- An answer other than 0 is of memory out of range.
-  drain-refused : (b : Bool) → DrainEnds b memory d → d .answer ≢ 0 → b ≡ false
+  drain-refused : (b : Bool) → DrainEnds split b memory d → d .answer ≢ 0 → b ≡ false
   drain-refused true t q = absurd (q (t .answer))
   drain-refused false e q = refl
 
-  drain-accepted : (b : Bool) → DrainEnds b memory d → d .answer ≡ 0 → (b ≡ true) × DrainedTo memory d
+  drain-accepted : (b : Bool) → DrainEnds split b memory d → d .answer ≡ 0 → (b ≡ true) × DrainedTo split memory d
   drain-accepted true t q = (refl, t)
   drain-accepted false e q = let one : d .answer ≡ 1 = ap (λ (x : Drained). x .answer) e in absurd (omega arith)
 
-  pub drained-to : DrainEnds (memoryInRange (view memory)) memory d → d .answer ≡ 0 → DrainedTo memory d
+  pub drained-to : DrainEnds split (memoryInRange (view memory)) memory d → d .answer ≡ 0 → DrainedTo split memory d
   drained-to ends q = drain-accepted (memoryInRange (view memory)) ends q .1
 
 -- What the contract says.
 module _ (bytes : List ℕ) where
   abbrev Claims : (r : ℕ) → (bytes′ : List ℕ) → Type 0
-  Claims r bytes′ = DrainsBytes bytes r bytes′ × (MadeBytes bytes → AllWalksEnd (storedNetwork bytes′))
+  Claims r bytes′ = DrainsBytes split bytes r bytes′ × (MadeBytes bytes → AllWalksEnd (storedNetwork bytes′))
 
-  claims : (b : Bool) (r : ℕ) (bytes′ : List ℕ) → outOfRange bytes ≡ b → DrainsBy b bytes r bytes′ → Claims r bytes′
+  claims : (b : Bool) (r : ℕ) (bytes′ : List ℕ) → outOfRange bytes ≡ b → DrainsWhen split b bytes r bytes′ → Claims r bytes′
   claims b r bytes′ e d =
-      let drains = subst (λ x. DrainsBy x bytes r bytes′) (sym e) d in
+      let drains = subst (λ x. DrainsWhen split x bytes r bytes′) (sym e) d in
       (drains, λ made. left-loop-free bytes made drain r bytes′ drains)
 
-  module _ (memory : Memory) (same : view memory ≡ storedNetwork bytes) (d : Drained) (ends : DrainEnds (memoryInRange (view memory)) memory d) where
+  module _ (memory : Memory) (same : view memory ≡ storedNetwork bytes) (d : Drained) (ends : DrainEnds split (memoryInRange (view memory)) memory d) where
     out-is : outOfRange bytes ≡ not (memoryInRange (view memory))
     unfolding outOfRange
     out-is = rw same
@@ -79,7 +80,7 @@ module _ (bytes : List ℕ) where
         claims false r bytes′ (out-is ∙ ap not ranged) (record {
           turns = t .turns;
           left = view (d .memory);
-          drained = subst (λ (net : Network). draining.Drained net (t .turns) (view (d .memory))) same (t .drained);
+          drained = subst (λ (net : Network). draining.Drained split net (t .turns) (view (d .memory))) same (t .drained);
           answer = ap shortAnswerOf result ∙ parts .0;
           deliveries = ap firstOf result ∙ parts .1 ∙ t .deliveries;
           losses = ap secondOf result ∙ parts .2 ∙ t .losses;

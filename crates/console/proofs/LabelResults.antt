@@ -29,7 +29,7 @@ module _ (a c v g : Label) (h : newLabelCall a c v ≡ took g) where
   took-told small =
       let firsts = both (inRange a && inRange c) (inRange v) (ranged .0) in
       let two = both (inRange a) (inRange c) (firsts .0) in
-      let number : g .s .0 ≡ v .s .0 = new-number a c v g (two .0) (two .1) (firsts .1) (ranged .1) in
+      let number : g .s .0 ≡ v .s .0 = new-number a c v g (ranged .1) in
       let order = new-label-maintains a c v g (two .0) (two .1) (firsts .1) (ranged .1) in
       let halves = unpacked (g .m) (g .d) small in
       rw (halves .0, halves .1, ne-eqb (g .d) 0 (λ z. omega (arith, range-denominator g (order .ranged))), ← number)

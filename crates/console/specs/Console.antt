@@ -5,17 +5,21 @@ use mathlib.Core.Bool.{true}
 use mathlib.Core.List.{List}
 use Rattle.base.specs.Results.{Result, refused, accepted, refuse_when_otherwise_}
 use Rattle.codec.specs.Bytes.{over}
+use Rattle.label.specs.Label.{Splitting, split}
 use Rattle.model.specs.Memory.{Network, memoryInRange}
-use Rattle.model.specs.Calls.{Call, Effect, step}
+use Rattle.model.specs.Calls.{Call, Effect, stepBy}
 use Rattle.layout.specs.Written.{networkBytes}
 use Rattle.layout.specs.Meaning.{tooShort, storedNetwork}
 use Rattle.console.specs.Packed.{packed}
 
--- A call on the network that stands in the bytes. "Open tests the length only."
-unfoldable pub calling : Call → List ℕ → Result Effect
-calling c bytes =
+-- A call on the network that stands in the bytes, by a rule for splits (02, F-6). "Open tests the length only."
+unfoldable pub callingBy : Splitting → Call → List ℕ → Result Effect
+callingBy splits c bytes =
     refuse 1 when tooShort bytes otherwise
-    step c (storedNetwork bytes)
+    stepBy splits c (storedNetwork bytes)
+
+abbrev pub calling : Call → List ℕ → Result Effect
+calling = callingBy split
 
 -- These bytes hold this network, which is in range.
 pub record Stores (bytes : List ℕ) (net : Network) : Type 0 where

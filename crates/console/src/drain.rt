@@ -1,6 +1,7 @@
 // Draining the air of the network that stands in the bytes.
 ghost use mathlib.Core.Logic.{_≢_};
 ghost use Prim.Native.Nat.{ℕ, _<_};
+ghost use Rattle.label.specs.Label.{split};
 ghost use Rattle.model.specs.Calls.{trace};
 ghost use Rattle.model.specs.Walks.{WalksEnd};
 ghost use Rattle.layout.specs.Meaning.{storedNetwork};
@@ -15,7 +16,7 @@ use sandbox::calls;
 // made no walk goes in a circle afterwards.
 #[no_mangle]
 pub extern "C" fn srp_drain(memory: &mut [u8]) -> u64
-    ensures drained { λ r. ⌜ DrainsBytes (now (memory .entry)) r (now (memory .exit)) ⌝ }
+    ensures drained { λ r. ⌜ DrainsBytes split (now (memory .entry)) r (now (memory .exit)) ⌝ }
     ensures loop_free { λ _. ⌜ (MadeBytes (now (memory .entry)) → (a t : ℕ) → a < storedNetwork (now (memory .exit)) .n → t < storedNetwork (now (memory .exit)) .n → a ≢ t
         → WalksEnd (storedNetwork (now (memory .exit))) a t (trace (storedNetwork (now (memory .exit))) a t)) ⌝ }
 {

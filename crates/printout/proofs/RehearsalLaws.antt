@@ -17,7 +17,7 @@ use Rattle.base.proofs.Results.{refuse-holds, refuse-passes, Satisfies, refuses
 use Rattle.codec.specs.Bytes.{over, putInto}
 use Rattle.codec.proofs.ByteLaws.{over-first}
 use Rattle.model.specs.Memory.{Network, Sized, fresh, airLimit, memoryInRange}
-use Rattle.model.specs.Calls.{Effect, step, notOpening, notLimit}
+use Rattle.model.specs.Calls.{Effect, step, runBy, notOpening, notLimit}
 use Rattle.model.specs.Walks.{LoopFree}
 use Rattle.model.specs.Events.{Event, calls, traces, noEvent, eventAt, callsIn, eventLimit, afterEvents, afterEventsBy}
 use Rattle.model.specs.Printout.{Line, line, resultLine, lineOf, labelLines, lineAt, eventLines, routeLines}
@@ -178,10 +178,10 @@ module _ (bytes : List ℕ) (limit room : ℕ) where
 -- circle; and its tally fits.
 module _ (bytes : List ℕ) (limit : ℕ) where
   pub routes-loop-free : RoutesLoopFree bytes limit
-  unfolding RoutesLoopFree LoopFree afterEventsBy
+  unfolding RoutesLoopFree LoopFree afterEventsBy runBy
   routes-loop-free s e k =
       let made = callsIn (tabulate (length (s .kinds)) (eventAt (s .kinds) (s .operands))) in
-      loop-free _ (fresh-reached (s .n) (s .start) limit (read-opens bytes s eventLimit (2 * eventLimit) e) k made _ refl)
+      loop-free _ (fresh-reached (s .n) (s .start) limit (read-opens bytes s eventLimit (2 * eventLimit) e) k [] made _ refl)
 
   pub tally-fits : TallyFits bytes limit
   unfolding TallyFits LimitFromHighest

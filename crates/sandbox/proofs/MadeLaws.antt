@@ -5,12 +5,13 @@ use mathlib.Core.Logic.{_≢_, _⊎_, inl, inr}
 use mathlib.Core.Bool.{Bool, true, false}
 use mathlib.Core.List.{List, [], _∷_}
 use Rattle.base.specs.Results.{Result, refused, accepted}
+use Rattle.label.specs.Label.{Splitting, split, mediant}
 use Rattle.model.specs.Memory.{Network, fresh, memoryInRange}
-use Rattle.model.specs.Calls.{Call, Open, Effect, after, notOpening, notLimit, step, run, runBy, Traced, trace}
-use Rattle.model.specs.Events.{eventsOf, callsIn, running}
+use Rattle.model.specs.Calls.{Call, Open, Effect, after, notOpening, notLimit, stepBy, step, runBy, Traced, trace}
+use Rattle.model.specs.Events.{eventsOf, callsIn, runningBy}
 use Rattle.model.specs.Walks.{Reached}
-use Rattle.model.proofs.Refusals.{openNumber, Opens, open-either}
-use Rattle.model.proofs.EventLaws.{running-after}
+use Rattle.model.proofs.Refusals.{openNumber, Opens, open-either, open-any}
+use Rattle.model.proofs.EventLaws.{running-after, reached-more}
 use Rattle.model.proofs.HistoryLaws.{made-reached}
 use Rattle.draining.specs.Draining.{callsOf, Action, call, drain, events, opens}
 use Rattle.network.specs.declared.Memory.{Memory}
@@ -28,13 +29,13 @@ abbrev Holds : Memory → Network → Type 0
 Holds memory net = view memory ≡ net
 
 -- An Open that answers 0 was accepted, and gives fresh memory.
-opened : (n start limit : ℕ) (memory left : Memory) → LeavesMemory (opens n start limit) memory 0 left
+opened : (n start limit : ℕ) (memory left : Memory) → LeavesMemory mediant (opens n start limit) memory 0 left
     → (notOpening n start ≡ false) × (notLimit limit ≡ false) × (view left ≡ fresh n start limit)
 unfolding Called
 opened n start limit memory left (sent, called) = go (open-either n start limit (view memory))
   where
     by : {z : Result Effect} → step (Open n start limit) (view memory) ≡ z → Called memory z (done left 0 sent)
-    by e = subst (λ z. Called memory z (done left 0 sent)) e called
+    by e = subst (λ z. Called memory z (done left 0 sent)) (open-any n start limit mediant (view memory) ∙ e) called
 
     go : ((openNumber n start limit ≢ 0) × (step (Open n start limit) (view memory) ≡ refused (openNumber n start limit))) ⊎ Opens n start limit (view memory)
         → (notOpening n start ≡ false) × (notLimit limit ≡ false) × (view left ≡ fresh n start limit)
@@ -42,39 +43,41 @@ opened n start limit memory left (sent, called) = go (open-either n start limit 
     go (inr w) = (w .right, w .within, ap (λ (x : Effect). x .net) (by (w .accepts) .0))
 
 -- What draining leaves, the calls of its turns leave.
-drain-leaves : (b : Bool) (memory : Memory) (r : Drained) → DrainEnds b memory r → (calls : List Call) × (view (r .memory) ≡ run calls (view memory))
+drain-leaves : (splits : Splitting) (b : Bool) (memory : Memory) (r : Drained) → DrainEnds splits b memory r → (calls : List Call) × (view (r .memory) ≡ runBy splits calls (view memory))
 unfolding runBy
-drain-leaves true memory r d = (callsOf (d .turns), d .drained .calls)
-drain-leaves false memory r e = ([], ap (λ (x : Drained). view (x .memory)) e)
+drain-leaves splits true memory r d = (callsOf (d .turns), d .drained .calls)
+drain-leaves splits false memory r e = ([], ap (λ (x : Drained). view (x .memory)) e)
 
 -- What a run of events leaves, the calls among them leave, or none.
-pub run-leaves : (net : Network) (kinds operands : List ℕ) (room : ℕ) → (calls : List Call) × (after net (running net kinds operands room) ≡ run calls net)
+pub run-leaves : (splits : Splitting) (net : Network) (kinds operands : List ℕ) (room : ℕ)
+    → (calls : List Call) × (after net (runningBy splits net kinds operands room) ≡ runBy splits calls net)
 unfolding runBy after
-run-leaves net kinds operands room = go (running net kinds operands room) refl
+run-leaves splits net kinds operands room = go (runningBy splits net kinds operands room) refl
   where
-    go : (z : Result Effect) → running net kinds operands room ≡ z → (calls : List Call) × (after net z ≡ run calls net)
+    go : (z : Result Effect) → runningBy splits net kinds operands room ≡ z → (calls : List Call) × (after net z ≡ runBy splits calls net)
     go (refused number) e = ([], refl)
-    go (accepted e) q = (callsIn (eventsOf kinds operands), running-after net kinds operands room e q)
+    go (accepted e) q = (callsIn (eventsOf kinds operands), running-after splits net kinds operands room e q)
 
-stepped : (c : Action) (memory : Memory) (answer : ℕ) (left : Memory) (net : Network) → view memory ≡ net → LeavesMemory c memory answer left
-    → (calls : List Call) × (view left ≡ run calls net)
+stepped : (splits : Splitting) (c : Action) (memory : Memory) (answer : ℕ) (left : Memory) (net : Network) → view memory ≡ net → LeavesMemory splits c memory answer left
+    → (calls : List Call) × (view left ≡ runBy splits calls net)
 unfolding runBy
-stepped (call c) memory answer left net h (sent, called) =
-    (c ∷ [], called-after memory (step c (view memory)) (done left answer sent) called ∙ ap (λ (x : Network). after x (step c x)) h)
-stepped (events kinds operands room) memory answer left net h called =
-    let (calls, e) = run-leaves (view memory) kinds operands room in
-    (calls, called-after memory (running (view memory) kinds operands room) (done left answer 0) called ∙ e ∙ ap (run calls) h)
-stepped drain memory answer left net h (deliveries, losses, d) =
-    let (calls, e) = drain-leaves (memoryInRange (view memory)) memory (drained left answer deliveries losses) d in
-    (calls, e ∙ ap (run calls) h)
+stepped splits (call c) memory answer left net h (sent, called) =
+    (c ∷ [], called-after memory (stepBy splits c (view memory)) (done left answer sent) called ∙ ap (λ (x : Network). after x (stepBy splits c x)) h)
+stepped splits (events kinds operands room) memory answer left net h called =
+    let (calls, e) = run-leaves splits (view memory) kinds operands room in
+    (calls, called-after memory (runningBy splits (view memory) kinds operands room) (done left answer 0) called ∙ e ∙ ap (runBy splits calls) h)
+stepped splits drain memory answer left net h (deliveries, losses, d) =
+    let (calls, e) = drain-leaves splits (memoryInRange (view memory)) memory (drained left answer deliveries losses) d in
+    (calls, e ∙ ap (runBy splits calls) h)
 
 pub made-memory-reached : (memory : Memory) → MadeMemory memory → Reached (view memory)
 made-memory-reached memory m = let (net, holds, reached) = made-reached opens LeavesMemory Holds opened stepped memory m in subst Reached (sym holds) reached
 
 -- Draining keeps what calls reach.
-pub drain-reached : (b : Bool) (memory : Memory) (r : Drained) → DrainEnds b memory r → Reached (view memory) → Reached (view (r .memory))
-drain-reached true memory r d reached = d .drained .reached reached
-drain-reached false memory r e reached = subst (λ (x : Drained). Reached (view (x .memory))) (sym e) reached
+pub drain-reached : (b : Bool) (memory : Memory) (r : Drained) → DrainEnds split b memory r → Reached (view memory) → Reached (view (r .memory))
+drain-reached b memory r d reached =
+    let (calls, left) = drain-leaves split b memory r d in
+    subst Reached (sym left) (reached-more (view memory) calls reached)
 
 -- The claims of Trace.
 module _ (memory : Memory) (a t : ℕ) (told : Traced) (e : told ≡ trace (view memory) a t) where
@@ -98,9 +101,9 @@ module _ (memory next : Memory) (keeps : Reached (view memory) → Reached (view
 
 -- What draining claims, from how it ended.
 module _ (memory : Memory) (r : Drained) where
-  pub drain-claims : (b : Bool) → memoryInRange (view memory) ≡ b → DrainEnds b memory r
-      → DrainEnds (memoryInRange (view memory)) memory r
+  pub drain-claims : (b : Bool) → memoryInRange (view memory) ≡ b → DrainEnds split b memory r
+      → DrainEnds split (memoryInRange (view memory)) memory r
       × ((MadeMemory memory → (a t : ℕ) → WalksEndIn (r .memory) a t (trace (view (r .memory)) a t)) × (Reached (view memory) → (a t : ℕ) → WalksEndIn (r .memory) a t (trace (view (r .memory)) a t)))
   drain-claims b e d =
       let keeps = drain-reached b memory r d in
-      (subst (λ x. DrainEnds x memory r) (sym e) d, (made-after memory (r .memory) keeps, reached-after memory (r .memory) keeps))
+      (subst (λ x. DrainEnds split x memory r) (sym e) d, (made-after memory (r .memory) keeps, reached-after memory (r .memory) keeps))

@@ -3,6 +3,7 @@ ghost use mathlib.Core.Path.{_≡_};
 ghost use mathlib.Core.Logic.{_≢_};
 ghost use mathlib.Core.Bool.{false};
 ghost use Prim.Native.Nat.{ℕ};
+ghost use Rattle.label.specs.Label.{split};
 ghost use Rattle.model.specs.Memory.{memoryInRange};
 ghost use Rattle.model.specs.Calls.{Open, Up, Down, Solicit, GiveUp, Expire, Deliver, Lose, Duplicate, step, traced, trace};
 ghost use Rattle.model.specs.Events.{notEvent, callOf};
@@ -123,7 +124,7 @@ pub fn preview(memory: Memory, k: usize) -> Preview
 // Draining the air: packet 0 is delivered again and again, and lost where Deliver gives 13 or 7, until no packet is in the air. No walk goes in a circle
 // in what it leaves of memory that the calls made.
 pub fn drain(memory: Memory) -> Drained
-    ensures drained { λ r. ⌜ DrainEnds (memoryInRange (view memory)) memory r ⌝ }
+    ensures drained { λ r. ⌜ DrainEnds split (memoryInRange (view memory)) memory r ⌝ }
     ensures loop_free { λ r. ⌜ (MadeMemory memory → (a t : ℕ) → WalksEndIn (r .memory) a t (trace (view (r .memory)) a t)) ⌝ }
     ensures reached { λ r. ⌜ (Reached (view memory) → (a t : ℕ) → WalksEndIn (r .memory) a t (trace (view (r .memory)) a t)) ⌝ }
 {

@@ -10,6 +10,7 @@ use Rattle.base.specs.Choice.{if_then_else_}
 use Rattle.base.specs.Results.{Result, refused, accepted, isRefusal}
 use Rattle.base.proofs.Booleans.{clash}
 use Rattle.base.proofs.Results.{same-refused}
+use Rattle.label.specs.Label.{split}
 use Rattle.model.specs.Memory as model
 use Rattle.model.specs.Memory.{Network}
 use Rattle.model.specs.Calls.{Deliver, Lose, Effect, effect, removePacket, step}
@@ -146,7 +147,7 @@ module _ {memory : Memory} {lines′ : List ℕ} {now : Memory} {lost i : ℕ} (
         let lose = lose-first (view now) (s .draining .kept) (some-air s h) in
         let gave = subst (λ z. Called now z (done (r .memory) (r .answer) (r .sent))) lose called .0 in
         let a = subst (λ b. Awaits b (s .answer) (view now) i (eventsIn (s .turns))) loses (s .awaits) in
-        let leaves : TurnLeaves loss (view now) (view (r .memory)) =
+        let leaves : TurnLeaves split loss (view now) (view (r .memory)) =
         (s .answer, effect 0 0 (removePacket 0 (view now)), a .0, loses, lose, ap (λ (x : Effect). x .net) gave) in
         let counts = loss-more (s .turns) in
         ended (s .turns ++ (loss ∷ [])) (draining-more (view memory) begins (s .draining) (some-air s h) loss (view (r .memory)) leaves)
@@ -167,7 +168,7 @@ module _ {memory : Memory} {lines′ : List ℕ} {now : Memory} {lost i : ℕ} (
             (rw (same, kept, delivers-or-loses (view now) (s .draining .kept) (some-air s h) number e) (e, omega (arith, made)))
         go (accepted x) e c =
             let accepts = accepted-tells (Deliver 0) (view now) x e in
-            let leaves : TurnLeaves delivery (view now) (view (r .memory)) = (x, e, ap (λ (y : Effect). y .net) (c .0)) in
+            let leaves : TurnLeaves split delivery (view now) (view (r .memory)) = (x, e, ap (λ (y : Effect). y .net) (c .0)) in
             let counts = delivery-more (s .turns) in
             ended (s .turns ++ (delivery ∷ [])) (draining-more (view memory) begins (s .draining) (some-air s h) delivery (view (r .memory)) leaves)
             (omega (arith, s .lost-are, counts .1)) (rw (kept-accepted (r .answer) (ap (λ (y : Effect). isRefusal (y .answer)) (c .0) ∙ accepts)) (omega (arith, made, counts)))

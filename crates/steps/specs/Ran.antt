@@ -6,6 +6,7 @@ use mathlib.Core.List.{List}
 use lib.ListN.{length}
 use lib.Seq.{sets}
 use Rattle.base.specs.Lists.{tabulate}
+use Rattle.label.specs.Label.{split}
 use Rattle.model.specs.Memory.{Network}
 use Rattle.model.specs.Events.{eventAt}
 use Rattle.model.specs.Printout.{lineAt}
@@ -40,7 +41,7 @@ pub record RanList (memory : Memory) (kinds operands lines lines′ : List ℕ) 
 -- The air is drained. A packet lost is two events: Deliver, which was turned down, and Lose.
 pub record RanDrain (memory : Memory) (r : Run) : Type 0 where
   pub turns : List Turn
-  pub drained : Drained (view memory) turns (view (r .memory))
+  pub drained : Drained split (view memory) turns (view (r .memory))
   pub losses : r .losses ≡ lossesIn turns
   pub events : r .events ≡ deliveriesIn turns + 2 * lossesIn turns
 

@@ -2,6 +2,7 @@
 use mathlib.Core.Path.{refl}
 use borrow.Author.Needs.{needs}
 use borrow.Author.Tests.{lt-ltb, le-ltb}
+use Rattle.label.specs.Label.{split}
 use Rattle.model.specs.Calls.{Open, step, stepBy}
 use Rattle.layout.specs.Meaning.{tooShort}
 use Rattle.console.specs.Console.{Leaves, tellingCall, Ends}
@@ -13,7 +14,7 @@ returns : tie.Need-returns
 unfolding Ends Leaves tellingCall tooShort
 returns c =
     let args = c .before .before .args in
-    rw (calling-short (Open (args .n) (args .start) (args .limit)) (args .memory .now) (lt-ltb _ _ (c .if1 .taken))) (refl, refl)
+    rw (calling-short split (Open (args .n) (args .start) (args .limit)) (args .memory .now) (lt-ltb _ _ (c .if1 .taken))) (refl, refl)
 
 fresh-requires : tie.Need-fresh-requires
 fresh-requires c κs = search needs
@@ -34,7 +35,7 @@ returns-2 c =
     let past = call .before .before .before in
     let args = past .before .before .args in
     let it = Open (args .n) (args .start) (args .limit) in
-    ends-finished it (args .memory .now) _ _ (call .«open» .ensures) (calling-long it (args .memory .now) (le-ltb _ _ (past .if1 .left))) _ _ (c .before .before .finish .ensures)
+    ends-finished it (args .memory .now) _ _ (call .«open» .ensures) (calling-long split it (args .memory .now) (le-ltb _ _ (past .if1 .left))) _ _ (c .before .before .finish .ensures)
 
 pub srp-open-spec : {M : Type 1} → statement M
 srp-open-spec =
