@@ -6,7 +6,7 @@ use mathlib.Core.Bool.{Bool, true, false}
 use mathlib.Core.List.{List, [], _∷_}
 use native.Mathlib.Omega.{arith}
 use Rattle.base.specs.Results.{Result, refused, accepted}
-use Rattle.label.specs.Label.{Splitting, split, mediant}
+use Rattle.label.specs.Label.{Splitting, split}
 use Rattle.model.specs.Memory.{Network, fresh}
 use Rattle.model.specs.Calls.{Call, Open, Effect, after, notOpening, notLimit, stepBy, step, runBy, trace}
 use Rattle.model.specs.Events.{runningBy}
@@ -58,24 +58,24 @@ stepped splits (events kinds operands room) bytes r left net s e =
     (calls, subst (Stores left) same (leaves-stores bytes net s (runningBy splits net kinds operands room) left ended))
 
 -- An Open that answers 0 was accepted, and leaves the bytes of fresh memory.
-opened : (n start limit : ℕ) (bytes left : List ℕ) → LeavesBytes mediant (opens n start limit) bytes 0 left
+opened : (splits : Splitting) (n start limit : ℕ) (bytes left : List ℕ) → LeavesBytes splits (opens n start limit) bytes 0 left
     → (notOpening n start ≡ false) × (notLimit limit ≡ false) × Stores left (fresh n start limit)
 unfolding Ends Leaves tellingCall
-opened n start limit bytes left h = go (tooShort bytes) refl (open-either n start limit (storedNetwork bytes))
+opened splits n start limit bytes left h = go (tooShort bytes) refl (open-either n start limit (storedNetwork bytes))
   where
     c : Call
     c = Open n start limit
 
-    by : {z : Result Effect} → callingBy mediant c bytes ≡ z → Ends bytes z 0 left
+    by : {z : Result Effect} → callingBy splits c bytes ≡ z → Ends bytes z 0 left
     by e = subst (λ z. Ends bytes z 0 left) e h
 
-    opens-long : tooShort bytes ≡ false → callingBy mediant c bytes ≡ step c (storedNetwork bytes)
-    opens-long e = calling-long mediant c bytes e ∙ open-any n start limit mediant (storedNetwork bytes)
+    opens-long : tooShort bytes ≡ false → callingBy splits c bytes ≡ step c (storedNetwork bytes)
+    opens-long e = calling-long splits c bytes e ∙ open-any n start limit splits (storedNetwork bytes)
 
     go : (t : Bool) → tooShort bytes ≡ t
         → ((openNumber n start limit ≢ 0) × (step c (storedNetwork bytes) ≡ refused (openNumber n start limit))) ⊎ Opens n start limit (storedNetwork bytes)
         → (notOpening n start ≡ false) × (notLimit limit ≡ false) × Stores left (fresh n start limit)
-    go true e w = let r = by (calling-short mediant c bytes e) .0 in absurd (omega (arith, r))
+    go true e w = let r = by (calling-short splits c bytes e) .0 in absurd (omega (arith, r))
     go false e (inl (some, k)) = let r = by (opens-long e ∙ k) .0 in absurd (some (omega (arith, r)))
     go false e (inr w) = (w .right, w .within, by (opens-long e ∙ w .accepts) .1 .1)
 

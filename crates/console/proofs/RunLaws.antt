@@ -12,7 +12,7 @@ use Rattle.base.proofs.Booleans.{both}
 use Rattle.base.proofs.Results.{Satisfies, refuses, accepts, satisfies-refuse, satisfies-accepted}
 use Rattle.model.specs.Memory.{Network, memoryInRange}
 use Rattle.model.specs.Calls.{Effect}
-use Rattle.model.specs.Events.{running, runningBy}
+use Rattle.model.specs.Events.{runningBy, running}
 use Rattle.model.specs.Tally as model
 use Rattle.model.specs.Tally.{HighestFits}
 use Rattle.draining.specs.Draining.{events}

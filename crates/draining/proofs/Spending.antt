@@ -19,9 +19,9 @@ use Rattle.label.specs.Label.{above, Outcome, took, gave}
 use Rattle.model.specs.Memory.{Successor, Row, Record, Request, Reply, Body, request, reply, error, other, Packet, Network}
 use Rattle.model.specs.Memory.{place, zeroRecord, zeroPacket, linkIn, rowIn, labelAt, rowAt, recordAt, linkUp, packetAt, without, under, put}
 use Rattle.model.specs.Memory.{setLabels, setRows, setRecords, setActives, setAir, setSerials}
-use Rattle.model.specs.Calls.{Effect, effect, packet, append, nextSerial, send, sending, neighbours, copies, errors, maskOf, takeOut, empties, emptied, bit, withdrawn, onError, removePacket, receive, receiveBy, deliver, deliverBy}
+use Rattle.model.specs.Calls.{Effect, effect, packet, append, nextSerial, send, sending, neighbours, copies, errors, maskOf, takeOut, empties, emptied, bit, withdrawn, onError, removePacket, receiveBy, receive, deliverBy, deliver}
 use Rattle.model.specs.Calls.{recorded, markPassed, replyTo, resets, withNumber, atDestination, canReply, onward, engage, onRequest}
-use Rattle.model.specs.Calls.{matches, adopt, settle, passesOn, passOn, onOutcome, onReply, onReplyBy}
+use Rattle.model.specs.Calls.{matches, adopt, settle, passesOn, passOn, onOutcome, onReplyBy, onReply}
 use Rattle.model.proofs.Rows.{takeOut-either, takeOut-at}
 use Rattle.model.proofs.Invariant.{BodyOk, WellFormed, place-below}
 use Rattle.model.proofs.Sending.{well-formed-remove}

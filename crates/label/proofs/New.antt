@@ -1,5 +1,5 @@
 -- New label by its cases, and that the label it takes maintains order.
-use Prim.Native.Nat.{ℕ, _+_, _*_, _<_, _≤_}
+use Prim.Native.Nat.{ℕ, _<_, _≤_}
 use mathlib.Core.Path.{_≡_, refl, sym, _∙_}
 use mathlib.Core.Logic.{_⊎_, inl, inr}
 use mathlib.Core.Bool.{Bool, true, false}
@@ -11,7 +11,7 @@ use Rattle.base.specs.Numbers.{maxU32}
 use Rattle.base.proofs.Booleans.{clash}
 use Rattle.fraction.specs.declared.Fraction.{Fraction}
 use Rattle.fraction.specs.Fraction.{_⊏_, Between, Simplest, simplest}
-use Rattle.fraction.proofs.First.{simplest-is, between-proper}
+use Rattle.fraction.proofs.Simplest.{simplest-is, between-proper}
 use Rattle.label.specs.declared.Label.{Label}
 use Rattle.label.specs.Label.{label, inRange, above, _≻_, _⪰_, Outcome, took, gave, fractionOf, fitting, next, Splitting, split, mediant, SplitRule, newLabelBy, newLabel, newLabelCall, MaintainsOrder, KeepsOrder}
 use Rattle.label.proofs.Range.{assigned-in-range, range-cases, InRange, is-unassigned, is-assigned, range-fraction, range-assigned}
@@ -191,8 +191,8 @@ pub split-rule : (c v : Label) → fractionOf v ⊏ fractionOf c → SplitRule c
 unfolding split
 split-rule c v h =
     record {
-      number = λ g e. rw (fitting-took _ _ _ g e);
-      taken = λ g e. rw (fitting-took _ _ _ g e) s;
+      number = λ g e. rw (is g e);
+      taken = λ g e. rw (is g e) s;
       overflow = (λ e f b. lt-of-lt-of-le (fitting-gave _ _ _ 114 e .0) (s .denominator f b), λ none. fitting-over _ _ _ (none z (s .between)));
       only = λ k e. fitting-gave _ _ _ k e .1;
     }
@@ -202,6 +202,9 @@ split-rule c v h =
 
     s : Simplest (fractionOf v) (fractionOf c) z
     s = simplest-is h
+
+    is : (g : Label) → split c v ≡ took g → g ≡ label (v .s .0) (z .m) (z .d)
+    is g e = fitting-took (v .s .0) (z .m) (z .d) g e
 
 -- It lies strictly between, and so does the mediant.
 split-between : SplitsBetween split

@@ -8,12 +8,12 @@ use Rattle.base.specs.Numbers.{maxU32}
 use Rattle.base.specs.Results.{Result, refused, accepted, refuse_when_otherwise_, isRefusal}
 use Rattle.base.proofs.Results.{Satisfies, accepts, satisfies-refuse, satisfies-refused, satisfies-accepted}
 use Rattle.label.specs.declared.Label.{Label}
-use Rattle.label.specs.Label.{Outcome, took, gave, above, fitting, next, split, newLabel, newLabelBy}
+use Rattle.label.specs.Label.{Outcome, took, gave, above, fitting, next, split, newLabelBy, newLabel}
 use Rattle.model.specs.Memory.{Request, Reply, Body, request, reply, error, other, Network, labelAt, rowAt, recordAt, setRecord}
 use Rattle.model.specs.Calls.{Call, Open, Up, Down, Solicit, GiveUp, Expire, Deliver, Lose, Duplicate}
-use Rattle.model.specs.Calls.{Effect, limited, opening, step, stepBy}
+use Rattle.model.specs.Calls.{Effect, limited, opening, stepBy, step}
 use Rattle.model.specs.Calls.{bit, removes, emptied, withdrawn, recorded, resets, canReply, matches, passesOn}
-use Rattle.model.specs.Calls.{sending, down, solicit, replyTo, atDestination, engage, onRequest, passOn, onOutcome, onReply, onReplyBy, errorOutcome, onError, receive, receiveBy, deliver, deliverBy}
+use Rattle.model.specs.Calls.{sending, down, solicit, replyTo, atDestination, engage, onRequest, passOn, onOutcome, onReplyBy, onReply, errorOutcome, onError, receiveBy, receive, deliverBy}
 
 record Answers (e : Effect) : Type 0 where
   tells : isRefusal (e .answer) ≡ false

@@ -16,7 +16,7 @@ use Rattle.model.proofs.EventLaws.{run-append}
 module _ {Action State : Type 0} (opens : (n start limit : ℕ) → Action)
     (Ends : Splitting → Action → (before : State) → (answer : ℕ) → (after : State) → Type 0)
     (Holds : State → Network → Type 0)
-    (opened : (n start limit : ℕ) (before left : State) → Ends mediant (opens n start limit) before 0 left
+    (opened : (splits : Splitting) (n start limit : ℕ) (before left : State) → Ends splits (opens n start limit) before 0 left
     → (notOpening n start ≡ false) × (notLimit limit ≡ false) × Holds left (fresh n start limit))
     (stepped : (splits : Splitting) (c : Action) (before : State) (answer : ℕ) (left : State) (net : Network) → Holds before net → Ends splits c before answer left
     → (calls : List Call) × Holds left (runBy splits calls net)) where
@@ -32,7 +32,7 @@ module _ {Action State : Type 0} (opens : (n start limit : ℕ) → Action)
   -- The network that a state made so holds is one that a list of calls reaches.
   pub made-reached : (left : State) → Made opens Ends left → (net : Network) × Holds left net × Reached net
   made-reached left m =
-      let (right, capped, holds) = opened (m .n) (m .start) (m .limit) (m .before) (m .opened) (m .opening) in
+      let (right, capped, holds) = opened (m .rule) (m .n) (m .start) (m .limit) (m .before) (m .opened) (m .opening) in
       let net = fresh (m .n) (m .start) (m .limit) in
       let (earlier, changed) = history-holds mediant (m .earlier) (m .opened) (m .changed) net holds (m .earlier-history) in
       let (later, last) = history-holds split (m .later) (m .changed) left (runBy mediant earlier net) changed (m .later-history) in

@@ -17,9 +17,9 @@ use Rattle.model.specs.Memory.{Request, Reply, Body, request, reply, err
 use Rattle.model.specs.Memory.{setLabels, setRows, setRecords, setLinks, setNumbers, setSoughts, setActives, setAir, setSerials, setLimit, memoryInRange}
 use Rattle.model.specs.Calls.{Call, Open, Up, Down, Solicit, GiveUp, Expire, Deliver, Lose, Duplicate}
 use Rattle.model.specs.Calls.{Effect, effect, after, usedUp, limited, notStation, notPair, notPacket}
-use Rattle.model.specs.Calls.{append, send, sending, neighbours, copies, errors, lost, parted, down, solicit, removePacket, receive, receiveBy, deliver, deliverBy, step, stepBy, run, runBy}
+use Rattle.model.specs.Calls.{append, send, sending, neighbours, copies, errors, lost, parted, down, solicit, removePacket, receiveBy, receive, deliverBy, deliver, stepBy, step, runBy, run}
 use Rattle.model.specs.Calls.{recorded, replyTo, resets, atDestination, canReply, engage, onRequest}
-use Rattle.model.specs.Calls.{matches, cachedAt, adopt, settle, passesOn, passOn, onOutcome, onReply, onReplyBy, onError, Traced, hopLimit, follow, trace}
+use Rattle.model.specs.Calls.{matches, cachedAt, adopt, settle, passesOn, passOn, onOutcome, onReplyBy, onReply, onError, Traced, hopLimit, follow, trace}
 use Rattle.model.specs.Events.{notEvent, Event, calls, traces, noEvent, noEventAnswer, eventOf, callsIn}
 use Rattle.model.specs.Printout.{line, resultLine, lineOf}
 use Rattle.model.proofs.Invariant.{well-formed-limit}

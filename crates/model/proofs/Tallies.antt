@@ -12,8 +12,8 @@ use Rattle.base.proofs.Loops.{tabulate-same, tabulate-more}
 use Rattle.label.specs.Label.{split}
 use Rattle.label.proofs.New.{new-label-maintains}
 use Rattle.model.specs.Memory.{Network, setLimit}
-use Rattle.model.specs.Calls.{Call, Effect, after, step, run, runBy}
-use Rattle.model.specs.Events.{Event, calls, traces, noEvent, eventAt, callsIn, afterEvents, afterEventsBy}
+use Rattle.model.specs.Calls.{Call, Effect, after, step, runBy}
+use Rattle.model.specs.Events.{Event, calls, traces, noEvent, eventAt, callsIn, afterEventsBy, afterEvents}
 use Rattle.model.specs.Printout.{Line, LabelLine, resultLine, lineOf, isListed, labelLineAt, stationLines, labelLines, lineAt, eventLines, routeLines}
 use Rattle.model.specs.Tally.{tally, highestAir, tallyOf, SameRun, TurnedDown, HighestFits, LimitFromHighest}
 use Rattle.model.proofs.Range.{Invariant, in-range-invariant}

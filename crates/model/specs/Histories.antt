@@ -13,15 +13,16 @@ History {State = State} Ends (c ∷ actions) before left = (answer : ℕ) × (ne
 -- `opens` is the action that opens a network, and `Ends` goes by a rule for splits.
 module _ {Action State : Type 0} (opens : (n start limit : ℕ) → Action)
     (Ends : Splitting → Action → (before : State) → (answer : ℕ) → (after : State) → Type 0) where
-  -- "The list, empty or not, starts from the memory an accepted Open leaves", whatever it was called on: a list of actions made this state, whose
-  -- calls "split the old way up to some place and the new way after it" (02, F-6). Opening splits no label.
+  -- "The list, empty or not, starts from the memory an accepted Open leaves", whatever it was called on and by whichever rule: a list of actions made
+  -- this state, whose calls "split the old way up to some place and the new way after it" (02, F-6). The place may be the beginning.
   pub record Made (left : State) : Type 0 where
     pub before : State
     pub n : ℕ
     pub start : ℕ
     pub limit : ℕ
     pub opened : State
-    pub opening : Ends mediant (opens n start limit) before 0 opened
+    pub rule : Splitting
+    pub opening : Ends rule (opens n start limit) before 0 opened
     pub earlier : List Action
     pub changed : State
     pub earlier-history : History (Ends mediant) earlier opened changed

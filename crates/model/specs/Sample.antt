@@ -15,7 +15,7 @@ use Rattle.model.specs.Calls.{append, countOn, send, sending, neighbours
 use Rattle.model.specs.Calls.{errors, maskOf, takeOut, removes, empties, emptied, between, everyDestination, lost, parted, down, bit, errorOutcome, withdrawn, onError}
 use Rattle.model.specs.Calls.{recorded, markPassed, replyTo, resets, atDestination, canReply, onwardLabel, onwardReset, onward, engage, onRequest}
 use Rattle.model.specs.Calls.{matches, cachedAt, adopt, settle, passesOn, passOn, onOutcome, onReplyBy, nextOf, follow, trace}
-use Rattle.model.specs.Events.{usesOne, notEvent, callOf, eventOf, eventAt, callsIn, afterEvents, afterEventsBy}
+use Rattle.model.specs.Events.{usesOne, notEvent, callOf, eventOf, eventAt, callsIn, afterEventsBy}
 use Rattle.model.specs.Printout.{Line, line, resultLine, lineOf, LabelLine, labelLine, isListed, labelLineAt, stationLines, labelLines, lineAt, eventLines, routeLines}
 use Rattle.model.specs.Tally.{tally, highestAir, tallyOf}
 

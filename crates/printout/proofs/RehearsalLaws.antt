@@ -19,7 +19,7 @@ use Rattle.codec.proofs.ByteLaws.{over-first}
 use Rattle.model.specs.Memory.{Network, Sized, fresh, airLimit, memoryInRange}
 use Rattle.model.specs.Calls.{Effect, step, runBy, notOpening, notLimit}
 use Rattle.model.specs.Walks.{LoopFree}
-use Rattle.model.specs.Events.{Event, calls, traces, noEvent, eventAt, callsIn, eventLimit, afterEvents, afterEventsBy}
+use Rattle.model.specs.Events.{Event, calls, traces, noEvent, eventAt, callsIn, eventLimit, afterEventsBy, afterEvents}
 use Rattle.model.specs.Printout.{Line, line, resultLine, lineOf, labelLines, lineAt, eventLines, routeLines}
 use Rattle.model.specs.Tally.{tallyOf, LimitFromHighest}
 use Rattle.model.proofs.Range.{Invariant, invariant-in-range}

@@ -5,7 +5,7 @@ use mathlib.Core.Logic.{_≢_, _⊎_, inl, inr}
 use mathlib.Core.Bool.{Bool, true, false}
 use mathlib.Core.List.{List, [], _∷_}
 use Rattle.base.specs.Results.{Result, refused, accepted}
-use Rattle.label.specs.Label.{Splitting, split, mediant}
+use Rattle.label.specs.Label.{Splitting, split}
 use Rattle.model.specs.Memory.{Network, fresh, memoryInRange}
 use Rattle.model.specs.Calls.{Call, Open, Effect, after, notOpening, notLimit, stepBy, step, runBy, Traced, trace}
 use Rattle.model.specs.Events.{eventsOf, callsIn, runningBy}
@@ -29,13 +29,13 @@ abbrev Holds : Memory → Network → Type 0
 Holds memory net = view memory ≡ net
 
 -- An Open that answers 0 was accepted, and gives fresh memory.
-opened : (n start limit : ℕ) (memory left : Memory) → LeavesMemory mediant (opens n start limit) memory 0 left
+opened : (splits : Splitting) (n start limit : ℕ) (memory left : Memory) → LeavesMemory splits (opens n start limit) memory 0 left
     → (notOpening n start ≡ false) × (notLimit limit ≡ false) × (view left ≡ fresh n start limit)
 unfolding Called
-opened n start limit memory left (sent, called) = go (open-either n start limit (view memory))
+opened splits n start limit memory left (sent, called) = go (open-either n start limit (view memory))
   where
     by : {z : Result Effect} → step (Open n start limit) (view memory) ≡ z → Called memory z (done left 0 sent)
-    by e = subst (λ z. Called memory z (done left 0 sent)) (open-any n start limit mediant (view memory) ∙ e) called
+    by e = subst (λ z. Called memory z (done left 0 sent)) (open-any n start limit splits (view memory) ∙ e) called
 
     go : ((openNumber n start limit ≢ 0) × (step (Open n start limit) (view memory) ≡ refused (openNumber n start limit))) ⊎ Opens n start limit (view memory)
         → (notOpening n start ≡ false) × (notLimit limit ≡ false) × (view left ≡ fresh n start limit)

@@ -18,7 +18,7 @@ use Rattle.codec.proofs.ByteLaws.{sets-over}
 use Rattle.model.specs.Memory.{Network, Sized, memoryInRange}
 use Rattle.model.specs.Calls.{Effect, effect, trace}
 use Rattle.model.specs.Walks.{Reached}
-use Rattle.model.specs.Events.{eventAt, callsIn, eventLimit, notEvents, allEvents, afterEvents, afterEventsBy, running, runningBy}
+use Rattle.model.specs.Events.{eventAt, callsIn, eventLimit, notEvents, allEvents, afterEventsBy, afterEvents, runningBy, running}
 use Rattle.model.specs.Printout.{lineAt, eventLines}
 use Rattle.model.specs.Tally as model
 use Rattle.model.specs.Tally.{tallyOf, HighestFits, LimitFromHighest}

@@ -9,7 +9,7 @@ use Rattle.label.specs.declared.Label.{Label}
 use Rattle.label.specs.Label.{Outcome, newLabel}
 use Rattle.model.specs.Memory as model
 use Rattle.model.specs.Memory.{Network, place, isActive, under, put, setLabels, setRows, setRecords, setActives, setActive}
-use Rattle.model.specs.Calls.{effect, replyTo, matches, cachedAt, adopt, settle, passesOn, passOn, onOutcome, onReply, onReplyBy}
+use Rattle.model.specs.Calls.{effect, replyTo, matches, cachedAt, adopt, settle, passesOn, passOn, onOutcome, onReplyBy, onReply}
 use Rattle.rows.specs.declared.Successor.{Successor}
 use Rattle.rows.specs.declared.Row.{Row}
 use Rattle.rows.specs.View.{successor, successorOf, rowOf}

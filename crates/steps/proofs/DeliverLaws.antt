@@ -14,7 +14,7 @@ use Rattle.label.specs.declared.Label.{Label}
 use Rattle.model.specs.Memory as model
 use Rattle.model.specs.Memory.{place, setLabels, setRows, setRecords, setActives, setAir, setSerials}
 use Rattle.model.specs.Calls.{Deliver, Effect, effect, limited, append, countOn, send, sending, errors, takeOut, removes, emptied, bit}
-use Rattle.model.specs.Calls.{withdrawn, errorOutcome, onError, removePacket, receive, receiveBy, deliver, deliverBy, step}
+use Rattle.model.specs.Calls.{withdrawn, errorOutcome, onError, removePacket, receiveBy, receive, deliverBy, step}
 use Rattle.model.specs.Events.{calls, eventOf}
 use Rattle.model.proofs.Refusals.{deliver-limited}
 use Rattle.model.proofs.Serials.{used-one, sending-length}

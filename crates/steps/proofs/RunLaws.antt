@@ -13,8 +13,8 @@ use Rattle.base.proofs.Booleans.{clash, Trichotomy, less, equal, more, trichoto
 use Rattle.base.proofs.Loops.{tabulate-length, tabulate-more}
 use Rattle.codec.proofs.ByteLaws.{sets-next}
 use Rattle.model.specs.Memory.{memoryInRange, airLimit, Sized}
-use Rattle.model.specs.Calls.{run, runBy}
-use Rattle.model.specs.Events.{eventOf, eventAt, callsIn, eventLimit, afterEvents, afterEventsBy}
+use Rattle.model.specs.Calls.{runBy, run}
+use Rattle.model.specs.Events.{eventOf, eventAt, callsIn, eventLimit, afterEventsBy, afterEvents}
 use Rattle.model.specs.Printout.{Line, line, lineAt}
 use Rattle.model.proofs.Range.{Invariant, in-range-invariant}
 use Rattle.model.proofs.EventLaws.{after-more}

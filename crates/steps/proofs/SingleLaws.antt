@@ -5,8 +5,8 @@ use mathlib.Core.List.{List, [], _∷_}
 use lib.ListN.{getD}
 use native.Mathlib.Omega.{arith}
 use Rattle.base.specs.Lists.{tabulate}
-use Rattle.model.specs.Calls.{run, runBy}
-use Rattle.model.specs.Events.{eventAt, callsIn, afterEvents, afterEventsBy}
+use Rattle.model.specs.Calls.{runBy}
+use Rattle.model.specs.Events.{eventAt, callsIn, afterEventsBy}
 use Rattle.model.specs.Printout.{Line, line, lineAt}
 use Rattle.network.specs.declared.Memory.{Memory}
 use Rattle.network.specs.View.{view}

@@ -1,7 +1,7 @@
 -- `fraction::simplest_between` meets its contract: what the runs find is what the denominators from 1 on give.
 use mathlib.Core.Path.{sym}
 use borrow.Author.Needs.{needs}
-use Rattle.fraction.proofs.First.{simplest-found}
+use Rattle.fraction.proofs.Simplest.{simplest-found}
 use Rattle.fraction.proofs.simplest_between.Statement.{statement}
 use Rattle.fraction.proofs.simplest_between.Tie as tie
 

@@ -3,7 +3,7 @@ use mathlib.Core.Path.{_≡_, sym, subst, _∙_}
 use native.Mathlib.Nat.{le-of-lt}
 use native.Mathlib.Omega.{arith}
 use borrow.Author.Needs.{needs}
-use Rattle.fraction.proofs.First.{simplest-is, between-proper}
+use Rattle.fraction.proofs.Simplest.{simplest-is, between-proper}
 use Rattle.label.specs.Label.{split, SplitRule, outcome}
 use Rattle.label.proofs.Range.{range-fraction}
 use Rattle.label.proofs.New.{split-rule}
@@ -33,7 +33,7 @@ unfolding split
 returns c =
     let past = c .before .before .before .before in
     let is : outcome (c .fitting .result) ≡ split (past .args .c) (past .args .v) = c .fitting .ensures
-        ∙ rw (c .before .simplest-between .ensures, c .before .before .fraction-of2 .ensures, c .before .before .before .fraction-of .ensures) in
+    ∙ rw (c .before .simplest-between .ensures, c .before .before .fraction-of2 .ensures, c .before .before .before .fraction-of .ensures) in
     (is, subst (SplitRule (past .args .c) (past .args .v)) (sym is) (split-rule _ _ (past .pre .1)))
 
 pub split-of-spec : {M : Type 1} → statement M

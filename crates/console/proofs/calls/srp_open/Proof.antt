@@ -3,7 +3,7 @@ use mathlib.Core.Path.{refl}
 use borrow.Author.Needs.{needs}
 use borrow.Author.Tests.{lt-ltb, le-ltb}
 use Rattle.label.specs.Label.{split}
-use Rattle.model.specs.Calls.{Open, step, stepBy}
+use Rattle.model.specs.Calls.{Open, stepBy}
 use Rattle.layout.specs.Meaning.{tooShort}
 use Rattle.console.specs.Console.{Leaves, tellingCall, Ends}
 use Rattle.console.proofs.ConsoleLaws.{calling-short, calling-long, ends-finished}

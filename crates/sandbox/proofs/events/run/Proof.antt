@@ -8,7 +8,7 @@ use borrow.Author.Needs.{needs}
 use Rattle.base.proofs.Booleans.{clash, not-was-true, not-was-false}
 use Rattle.base.proofs.Results.{refuse-holds, refuse-passes}
 use Rattle.model.specs.Memory.{memoryInRange}
-use Rattle.model.specs.Events.{notEvents, allEvents, running, runningBy}
+use Rattle.model.specs.Events.{notEvents, allEvents, runningBy}
 use Rattle.model.specs.Tally.{tallyOf}
 use Rattle.model.proofs.EventLaws.{events-tell}
 use Rattle.network.specs.View.{view}

@@ -1,7 +1,7 @@
 -- `receiving::react` meets its contract, by the packet's kind.
 use native.Mathlib.Omega.{arith}
 use borrow.Author.Needs.{needs}
-use Rattle.model.specs.Calls.{receive, receiveBy}
+use Rattle.model.specs.Calls.{receiveBy}
 use Rattle.network.proofs.ViewLaws.{body-request, body-reply}
 use Rattle.station.proofs.receiving.react.Statement.{statement}
 use Rattle.station.proofs.receiving.react.Tie as tie
