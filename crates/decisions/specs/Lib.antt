@@ -1,4 +1,2 @@
-pub mod Refusing
-pub mod Tracing
 pub mod Changing
 pub mod Cutting

@@ -1,6 +1,4 @@
-// What the calls decide (01, "What each call does"), on small values: which number turns an event down, whose rows lose whom, and where
-// the tracer goes. What the receiver of a request or a reply does is `station`.
+// What the calls decide (01, "What each call does"), on small values: what changes at a station, and whose rows lose whom. Which number turns an
+// event down is `refusing`, where the tracer goes `tracing`, and what the receiver of a request or a reply does `station`.
 pub mod changing;
 pub mod cutting;
-pub mod refusing;
-pub mod tracing;

@@ -29,7 +29,7 @@ use Rattle.decisions.specs.declared.cutting.Losses.{Losses}
 use Rattle.decisions.specs.declared.changing.Spot.{Spot}
 use Rattle.decisions.specs.declared.changing.Change.{Change}
 use Rattle.decisions.specs.Cutting.{ErrorCuts}
-use Rattle.decisions.specs.Refusing.{Seen, Tests}
+use Rattle.refusing.specs.Refusing.{Seen, Tests}
 use Rattle.decisions.specs.Changing.{Reacts}
 use Rattle.steps.proofs.RunLaws.{lengths-shape, shape-sized}
 use Rattle.steps.proofs.ArmLaws.{known}

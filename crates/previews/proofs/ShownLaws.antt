@@ -33,8 +33,8 @@ use Rattle.decisions.specs.declared.changing.Change.{Change}
 use Rattle.decisions.specs.declared.cutting.Cut.{Cut}
 use Rattle.decisions.specs.declared.cutting.Losses.{Losses}
 use Rattle.decisions.specs.Cutting.{ErrorCuts}
-use Rattle.decisions.specs.Refusing.{Seen, Tests, sendingRefusal}
-use Rattle.decisions.proofs.RefusalLaws.{first-alone}
+use Rattle.refusing.specs.Refusing.{Seen, Tests, sendingRefusal}
+use Rattle.refusing.proofs.RefusalLaws.{first-alone}
 use Rattle.decisions.specs.Changing.{classOf, reaction, Reacts}
 use Rattle.steps.proofs.RunLaws.{Shape, shape-sized}
 use Rattle.steps.proofs.ArmLaws.{Tested, known}

@@ -5,7 +5,7 @@ use Rattle.base.specs.Choice.{if_then_else_}
 use Rattle.model.specs.Preview as model
 use Rattle.model.specs.Preview.{shows, numberShown}
 use Rattle.rows.specs.View.{rowOf}
-use Rattle.decisions.specs.Refusing.{sendingRefusal}
+use Rattle.refusing.specs.Refusing.{sendingRefusal}
 use Rattle.previews.specs.declared.Preview.{Preview}
 
 abbrev pub previewOf : Preview → model.Preview

@@ -26,7 +26,7 @@ use Rattle.network.specs.View.{zeroNumber, zeroPacket, packetOf, packetsOf, lab
 use Rattle.network.proofs.ViewLaws.{number-at, label-at}
 use Rattle.network.proofs.Ranged.{Ranged}
 use Rattle.network.proofs.PacketLaws.{packets-count, packets-at}
-use Rattle.decisions.specs.Refusing.{Passes}
+use Rattle.refusing.specs.Refusing.{Passes}
 use Rattle.steps.proofs.PacketMoves.{removeAt-length}
 use Rattle.steps.proofs.RunLaws.{airing}
 use Rattle.steps.proofs.ArmLaws.{Does, Tested, known, passes, both-below}

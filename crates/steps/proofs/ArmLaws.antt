@@ -29,10 +29,10 @@ use Rattle.network.specs.View.{zeroNumber, view}
 use Rattle.network.proofs.ViewLaws.{number-at}
 use Rattle.network.proofs.PacketLaws.{packets-count}
 use Rattle.network.proofs.Ranged.{Ranged}
-use Rattle.decisions.specs.declared.tracing.Walk.{Walk}
+use Rattle.tracing.specs.declared.Walk.{Walk}
 use Rattle.decisions.specs.declared.changing.Spot.{Spot}
-use Rattle.decisions.specs.Refusing.{Seen, Passes, Tests}
-use Rattle.decisions.specs.Tracing.{tells}
+use Rattle.refusing.specs.Refusing.{Seen, Passes, Tests}
+use Rattle.tracing.specs.Tracing.{tells}
 use Rattle.decisions.specs.Changing.{classOf}
 use Rattle.steps.specs.Called.{done}
 use Rattle.steps.specs.Happens.{happened, Happens}

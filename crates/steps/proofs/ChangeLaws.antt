@@ -33,9 +33,9 @@ use Rattle.station.specs.Replying.{Ready}
 use Rattle.station.proofs.Laws.{sent-counted, numbered-body}
 use Rattle.decisions.specs.declared.changing.Spot.{Spot}
 use Rattle.decisions.specs.declared.changing.Change.{Change}
-use Rattle.decisions.specs.Refusing.{Passes, sendingRefusal}
+use Rattle.refusing.specs.Refusing.{Passes, sendingRefusal}
 use Rattle.decisions.specs.Changing.{classOf, Solicits, reaction, Reacts, Loses, Doubles}
-use Rattle.decisions.proofs.RefusalLaws.{first-alone}
+use Rattle.refusing.proofs.RefusalLaws.{first-alone}
 use Rattle.steps.specs.Happens.{happened, Happens}
 use Rattle.steps.proofs.PacketMoves.{removeAt-length, exchanged}
 use Rattle.steps.proofs.RunLaws.{airing, Shape}

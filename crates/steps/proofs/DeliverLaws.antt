@@ -35,7 +35,7 @@ use Rattle.station.specs.Replying.{LastRequest, Ready}
 use Rattle.decisions.specs.declared.cutting.Cut.{Cut}
 use Rattle.decisions.specs.declared.cutting.Losses.{Losses}
 use Rattle.decisions.specs.Cutting.{leavesBy, ErrorCuts}
-use Rattle.decisions.specs.Refusing.{Passes}
+use Rattle.refusing.specs.Refusing.{Passes}
 use Rattle.steps.proofs.PacketMoves.{removeAt-length}
 use Rattle.steps.proofs.RunLaws.{airing, shape-sized}
 use Rattle.steps.proofs.ArmLaws.{Does, Tested, known, passes}

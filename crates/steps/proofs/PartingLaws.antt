@@ -36,8 +36,8 @@ use Rattle.station.proofs.Laws.{sent-counted, numbered-body}
 use Rattle.decisions.specs.declared.cutting.Cut.{Cut}
 use Rattle.decisions.specs.declared.cutting.Losses.{Losses}
 use Rattle.decisions.specs.Cutting.{leavesBy, DownCuts, ErrorCuts}
-use Rattle.decisions.specs.Refusing.{Passes, sendingRefusal}
-use Rattle.decisions.proofs.RefusalLaws.{both-send}
+use Rattle.refusing.specs.Refusing.{Passes, sendingRefusal}
+use Rattle.refusing.proofs.RefusalLaws.{both-send}
 use Rattle.steps.specs.Happens.{happened, Happens}
 use Rattle.steps.specs.Parting.{restOf}
 use Rattle.steps.proofs.PacketMoves as moves

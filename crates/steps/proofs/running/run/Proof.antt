@@ -24,8 +24,8 @@ use Rattle.network.proofs.ViewLaws.{row-at}
 use Rattle.network.proofs.Bounds.{memory-lengths, array-length}
 use Rattle.network.proofs.Ranged.{Ranged}
 use Rattle.decisions.specs.Cutting.{leavesBy}
-use Rattle.decisions.specs.Tracing.{tells}
-use Rattle.decisions.proofs.RefusalLaws.{number-left, air-within}
+use Rattle.tracing.specs.Tracing.{tells}
+use Rattle.refusing.proofs.RefusalLaws.{number-left, air-within}
 use Rattle.station.proofs.Laws.{sent-few}
 use Rattle.telling.specs.Lines.{Packs}
 use Rattle.steps.specs.Source.{goesOn}
