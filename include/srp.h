@@ -103,7 +103,7 @@ enum srp_answer {
     SRP_REPLY_UNASKED = 111,         /* a reply: at its destination, or matching no request here; nothing done */
     SRP_OWN_NOT_ABOVE = 112,         /* the own label is not above the advertised one */
     SRP_CACHED_NOT_ABOVE = 113,      /* the cached label is not above the advertised one */
-    SRP_DOES_NOT_FIT = 114,          /* the new label's denominator is over 4,294,967,295 */
+    SRP_DOES_NOT_FIT = 114,          /* no new label has a denominator up to 4,294,967,295 */
     SRP_REPLY_TAKEN = 115,           /* a reply: label and successor taken */
     SRP_ERROR_NONE_REMOVED = 121,    /* an error: no successor removed */
     SRP_ERROR_NONE_EMPTIED = 122,    /* an error: removed, no row emptied */
@@ -397,11 +397,13 @@ uint64_t srp_rehearse(const uint8_t *script, size_t script_length, size_t limit,
 /* ---- New label ------------------------------------------------------------------------------ */
 
 /*
- * New label from the own label A, the cached label C and the advertised label V.
+ * New label from the own label A, the cached label C and the advertised label V. Where C and V have
+ * one s and A itself is not taken, the new fraction is the one strictly between V's and C's with the
+ * least denominator.
  * Where a label is taken, its d is the high half of the result and never 0, its m is the low half,
  * and its s is advertised_s. Where none is, the high half is 0 and the low half a number: 1 if one of
  * the three is out of range (neither (0, 1/1) nor s > 0 and m < d), 112 if A is not above V, 113 if C
- * is not above V, 114 if the new denominator is over 4,294,967,295, tested in this order.
+ * is not above V, 114 if the new denominator would be over 4,294,967,295, tested in this order.
  */
 uint64_t srp_new_label(uint64_t own_s, uint32_t own_m, uint32_t own_d, uint64_t cached_s, uint32_t cached_m,
                        uint32_t cached_d, uint64_t advertised_s, uint32_t advertised_m, uint32_t advertised_d);
