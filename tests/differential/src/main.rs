@@ -51,12 +51,16 @@ fn families() -> Vec<Family> {
     vec![
         Family {
             name: "labels",
-            cases: 1 + 1_000_000 / TRIPLES,
-            check: Box::new(|case| if case == 0 { labels::check_cases() } else { labels::check_random(case, TRIPLES) }),
+            cases: 2 + 4_000_000 / TRIPLES,
+            check: Box::new(|case| match case {
+                0 => labels::check_cases(),
+                1 => labels::check_small(),
+                _ => labels::check_random(case, TRIPLES),
+            }),
             meets: &[0, 1, 112, 113, 114],
             previews: &[],
             drains: false,
-            named: vec![],
+            named: labels::NAMED.to_vec(),
         },
         Family {
             name: "rows",
