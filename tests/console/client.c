@@ -1042,8 +1042,18 @@ static void test_new_label(void)
         {{0, 1, 1}, {2, 1, 2}, {1, 0, 1}, SRP_CACHED_NOT_ABOVE, 0},
         {{0, 1, 1}, {0, 1, 1}, {1, 1, 4294967294u}, 2, 4294967295u},
         {{0, 1, 1}, {0, 1, 1}, {1, 1, 4294967295u}, SRP_DOES_NOT_FIT, 0},
-        {{1, 2, 3}, {1, 2, 3}, {1, 1, 4294967292u}, 3, 4294967295u},
-        {{1, 2, 3}, {1, 2, 3}, {1, 1, 4294967293u}, SRP_DOES_NOT_FIT, 0},
+        {{1, 2, 3}, {1, 2, 3}, {1, 1, 4294967292u}, 1, 2},
+        {{1, 2, 3}, {1, 2, 3}, {1, 1, 4294967293u}, 1, 2},
+        /* The last denominator that fits, and the next: between k/(2k + 1) and 1/2 there is (k + 1)/(2k + 3), between k/(3k + 1) and 1/3
+         * there is (k + 1)/(3k + 4). */
+        {{0, 1, 1}, {1, 1, 2}, {1, 2147483646u, 4294967293u}, 2147483647u, 4294967295u},
+        {{0, 1, 1}, {1, 1, 3}, {1, 1431655764u, 4294967293u}, SRP_DOES_NOT_FIT, 0},
+        /* Between 1/d and 3/(3d + 2) there is 2/(2d + 1): 114 is not judged by the sum of the denominators. */
+        {{0, 1, 1}, {1, 1, 1431655763u}, {1, 3, 4294967291u}, 2, 2863311527u},
+        /* Ends that are not in lowest terms; q + 1 reads V's own numbers. */
+        {{0, 1, 1}, {1, 2, 4}, {1, 0, 7}, 1, 3},
+        {{0, 1, 1}, {1, 4, 6}, {1, 2, 4}, 3, 5},
+        {{0, 1, 1}, {0, 1, 1}, {1, 2, 4}, 3, 5},
         /* Out of range comes first, for each of the three. */
         {{1, 1, 1}, {0, 1, 1}, {1, 0, 1}, SRP_OUT_OF_RANGE, 0},
         {{0, 1, 2}, {0, 1, 1}, {1, 0, 1}, SRP_OUT_OF_RANGE, 0},
@@ -1097,6 +1107,38 @@ static void test_splits(void)
     }
     CHECK_EQ(newer.d, 2971215073u);
     CHECK_EQ(split(older, newer), SRP_DOES_NOT_FIT);
+}
+
+/* The ends of splits that are tried by every denominator go up to this one. */
+#define SMALL_ENDS 24
+
+/*
+ * Every two fractions with small denominators, in lowest terms or not. What is expected is found by trying: the first denominator of 1, 2, 3, ..
+ * that has a fraction strictly between.
+ */
+static void test_simplest(void)
+{
+    const struct label unassigned = {0, 1, 1};
+    struct label x = {1, 0, 0}, y = {1, 0, 0};
+
+    for (x.d = 1; x.d <= SMALL_ENDS; x.d++)
+        for (x.m = 0; x.m < x.d; x.m++)
+            for (y.d = 1; y.d <= SMALL_ENDS; y.d++)
+                for (y.m = 0; y.m < y.d; y.m++) {
+                    uint32_t m = 0, d = 1;
+
+                    if (x.m * y.d >= y.m * x.d) {
+                        CHECK_EQ(new_label(unassigned, y, x), SRP_CACHED_NOT_ABOVE);
+                        continue;
+                    }
+                    while (!(x.m * d < m * x.d && m * y.d < y.m * d))
+                        if (++m > d) {
+                            m = 0;
+                            d++;
+                        }
+                    CHECK_EQ(new_label(unassigned, y, x), result(m, d));
+                    CHECK_EQ(new_label(y, y, x), result(m, d));
+                }
 }
 
 /* ---- Scripts -------------------------------------------------------------------------------- */
@@ -3340,6 +3382,7 @@ int main(int argc, char **argv)
     test_previews_of_errors();
     test_new_label();
     test_splits();
+    test_simplest();
     test_reading();
     test_script_start();
     test_reading_refused();

@@ -10,7 +10,7 @@
 use differential::random::Random;
 use differential::scripts::{self, Script};
 use differential::tally::{Tally, ANSWERS};
-use differential::{damage, labels, limits, networks, program, rows, runs, script_bytes, serials, versions};
+use differential::{changeover, damage, labels, limits, networks, program, rows, runs, script_bytes, serials, versions};
 use std::panic::{catch_unwind, AssertUnwindSafe};
 use std::process::ExitCode;
 use std::sync::atomic::{AtomicBool, AtomicU64, AtomicUsize, Ordering::Relaxed};
@@ -47,7 +47,7 @@ const TRIPLES: usize = 10_000;
 
 fn families() -> Vec<Family> {
     let scripts = examples();
-    let [for_damage, for_memory, for_clauses, for_versions, for_limits] = [(); 5].map(|()| scripts.clone());
+    let [for_damage, for_memory, for_clauses, for_versions, for_limits, for_changeovers] = [(); 6].map(|()| scripts.clone());
     vec![
         Family {
             name: "labels",
@@ -177,6 +177,15 @@ fn families() -> Vec<Family> {
             previews: &[],
             drains: false,
             named: vec![limits::OF_128, limits::OF_ANOTHER, limits::NOT_REACHED],
+        },
+        Family {
+            name: "changeovers",
+            cases: 1_600,
+            check: Box::new(move |case| changeover::check(case, &for_changeovers)),
+            meets: &[0, 2, 3, 4, 5, 6, 7, 101, 102, 103, 104, 111, 112, 114, 115, 121, 122, 123, 131, 132],
+            previews: &[],
+            drains: true,
+            named: changeover::NAMED.to_vec(),
         },
     ]
 }

@@ -5,6 +5,7 @@ use crate::program::rehearse;
 use crate::random::Random;
 use crate::serials;
 use crate::tally::Tally;
+use reference::label::Split;
 use reference::network::{Network, ERROR, LENGTH, MAX_PACKETS, REQUEST};
 use reference::script::{self, DELIVER, DOWN, DUPLICATE, EXPIRE, GIVE_UP, LOSE, MAX_EVENTS, SOLICIT, TRACE, UP};
 
@@ -77,7 +78,7 @@ pub const STYLES: [Style; 5] = [
 ];
 
 /// Starts at the ends of 64 bits and between.
-fn some_start(random: &mut Random) -> u64 {
+pub fn some_start(random: &mut Random) -> u64 {
     match random.below(6) {
         0 | 1 => 1,
         2 => u64::MAX,
@@ -91,17 +92,20 @@ fn some_start(random: &mut Random) -> u64 {
 struct Growing {
     script: Script,
     network: Box<Network>,
+    /// So many of the first events split the old way.
+    old: usize,
 }
 
 impl Growing {
-    fn new(n: usize, start: u64) -> Growing {
-        Growing { script: Script { n, start, kinds: vec![], operands: vec![] }, network: Network::fresh(n, start, MAX_PACKETS) }
+    fn new(n: usize, start: u64, old: usize) -> Growing {
+        Growing { script: Script { n, start, kinds: vec![], operands: vec![] }, network: Network::fresh(n, start, MAX_PACKETS), old }
     }
 
     fn push(&mut self, kind: u8, a: u8, b: u8) {
+        let split = if self.script.kinds.len() < self.old { Split::Mediant } else { Split::Simplest };
         self.script.kinds.push(kind);
         self.script.operands.extend([a, b]);
-        let _ = self.network.event(kind, a, b);
+        let _ = self.network.event_by(split, kind, a, b);
     }
 
     /// A tree over the stations, and some links more.
@@ -208,7 +212,12 @@ impl Growing {
 
 /// A script of a style, of a network of n stations.
 pub fn styled(random: &mut Random, style: &Style, n: usize, start: u64, events: usize) -> Script {
-    let mut growing = Growing::new(n, start);
+    styled_over(random, style, n, start, events, 0)
+}
+
+/// One of which so many of the first events split the old way.
+pub fn styled_over(random: &mut Random, style: &Style, n: usize, start: u64, events: usize, old: usize) -> Script {
+    let mut growing = Growing::new(n, start, old);
     if !random.percent(10) {
         growing.push_links(random, events);
     }
@@ -217,11 +226,11 @@ pub fn styled(random: &mut Random, style: &Style, n: usize, start: u64, events: 
 }
 
 /// A script that begins with the events of an example, all or most of them, and goes on in a style. Mostly it is the longest, which
-/// leads to the largest denominators.
-fn continued(random: &mut Random, style: &Style, examples: &[Script], start: u64, events: usize) -> Script {
+/// leads to the largest denominators. So many of its first events split the old way.
+pub fn continued(random: &mut Random, style: &Style, examples: &[Script], start: u64, events: usize, old: usize) -> Script {
     let longest = examples.iter().max_by_key(|script| script.kinds.len()).unwrap();
     let first = if random.percent(60) { longest } else { &examples[random.below(examples.len())] };
-    let mut growing = Growing::new(first.n, start);
+    let mut growing = Growing::new(first.n, start, old);
     let all = first.kinds.len();
     let taken = if random.percent(50) { all } else { random.between(2 * all / 3, all) };
     for (_, kind, a, b) in first.events().take(taken) {
@@ -244,7 +253,7 @@ pub fn script_of(case: usize, examples: &[Script]) -> Script {
     };
     let start = some_start(&mut random);
     if round % 7 == 6 {
-        continued(&mut random, style, examples, start, events)
+        continued(&mut random, style, examples, start, events, 0)
     } else {
         styled(&mut random, style, n, start, events)
     }
