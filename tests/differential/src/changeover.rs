@@ -4,7 +4,7 @@
 use crate::calls::{answer_of, count_of, Desk};
 use crate::random::Random;
 use crate::runs::run;
-use crate::scripts::{check_made, continued, never, some_start, styled_over, with_script, Script, STYLES};
+use crate::scripts::{check_made, continued, never, some_start, styled_over, with_script, Script, MOVING, STYLES};
 use crate::tally::Tally;
 use reference::label::Split;
 use reference::network::{Bytes, Network, MAX_PACKETS, MAX_STATIONS};
@@ -139,7 +139,7 @@ fn check_at(tally: &mut Tally, script: &Script, place: usize) -> Result<(), Stri
 /// A script and the places where it goes over: each place of a short script, or one of a longer one, which now and then goes on from an example.
 fn some_changeover(case: usize, examples: &[Script]) -> (Script, std::ops::RangeInclusive<usize>) {
     let mut random = Random::new(case as u64);
-    let style = &STYLES[case % STYLES.len()];
+    let style = if random.percent(70) { &MOVING } else { &STYLES[case % STYLES.len()] };
     let start = some_start(&mut random);
     if case.is_multiple_of(8) {
         let (n, events) = (random.between(2, 8), random.below(61));

@@ -1,6 +1,7 @@
 //! Runs the differential tests.
 //!
 //!     differential               all families
+//!     differential FAMILY        one family
 //!     differential FAMILY CASE   one case again
 //!     differential script HEX..  one script again
 //!
@@ -254,10 +255,10 @@ fn missed<'a>(to_meet: &'a [u32], met: &'a [u64; ANSWERS]) -> impl Iterator<Item
     to_meet.iter().copied().filter(|&answer| met[answer as usize] == 0)
 }
 
-fn check_all() -> ExitCode {
-    let families = families();
+/// These families.
+fn check_all(families: &[Family]) -> ExitCode {
     let mut tallies = Vec::new();
-    for family in &families {
+    for family in families {
         let began = Instant::now();
         match check_family(family) {
             Ok(tally) => {
@@ -355,15 +356,19 @@ fn check_script(hex: &str) -> ExitCode {
 }
 
 fn usage() -> ExitCode {
-    eprintln!("usage: differential [FAMILY CASE | script HEX..]");
+    eprintln!("usage: differential [FAMILY [CASE] | script HEX..]");
     ExitCode::from(2)
 }
 
 fn main() -> ExitCode {
     let arguments: Vec<String> = std::env::args().skip(1).collect();
     match arguments.iter().map(String::as_str).collect::<Vec<_>>()[..] {
-        [] => check_all(),
+        [] => check_all(&families()),
         ["script", ref hex @ ..] => check_script(&hex.concat()),
+        [name] => match families().iter().position(|family| family.name == name) {
+            Some(at) => check_all(&families()[at..=at]),
+            None => usage(),
+        },
         [name, case] => check_again(name, case),
         _ => usage(),
     }
