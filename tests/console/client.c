@@ -1050,6 +1050,8 @@ static void test_new_label(void)
         {{0, 1, 1}, {1, 1, 3}, {1, 1431655764u, 4294967293u}, SRP_DOES_NOT_FIT, 0},
         /* Between 1/d and 3/(3d + 2) there is 2/(2d + 1): 114 is not judged by the sum of the denominators. */
         {{0, 1, 1}, {1, 1, 1431655763u}, {1, 3, 4294967291u}, 2, 2863311527u},
+        /* The ends are the cached label and the advertised one, also where the own label is above both. */
+        {{1, 2, 3}, {1, 2, 5}, {1, 1, 3}, 3, 8},
         /* Ends that are not in lowest terms; q + 1 reads V's own numbers. */
         {{0, 1, 1}, {1, 2, 4}, {1, 0, 7}, 1, 3},
         {{0, 1, 1}, {1, 4, 6}, {1, 2, 4}, 3, 5},
