@@ -1052,7 +1052,8 @@ static void test_new_label(void)
         {{0, 1, 1}, {1, 1, 1431655763u}, {1, 3, 4294967291u}, 2, 2863311527u},
         /* The ends are the cached label and the advertised one, also where the own label is above both. */
         {{1, 2, 3}, {1, 2, 5}, {1, 1, 3}, 3, 8},
-        /* Ends that are not in lowest terms; q + 1 reads V's own numbers. */
+        /* Labels that are not in lowest terms: an own label that is kept stays as it is, and q + 1 reads V's own numbers. */
+        {{1, 2, 4}, {1, 2, 3}, {1, 0, 1}, 2, 4},
         {{0, 1, 1}, {1, 2, 4}, {1, 0, 7}, 1, 3},
         {{0, 1, 1}, {1, 4, 6}, {1, 2, 4}, 3, 5},
         {{0, 1, 1}, {0, 1, 1}, {1, 2, 4}, 3, 5},
@@ -1141,6 +1142,56 @@ static void test_simplest(void)
                     CHECK_EQ(new_label(unassigned, y, x), result(m, d));
                     CHECK_EQ(new_label(y, y, x), result(m, d));
                 }
+}
+
+/* The example before the reply arrives at station 1, whose cached label is now (1, 3/4): between 0/1 and 3/4 there is 1/2, and the sums are 3/5. */
+static struct desk *before_split(void)
+{
+    struct desk *d = example_after(6);
+
+    put_label(d->memory + SRP_RECORD_AT(1, 2) + SRP_RECORD_CACHED, 1, 3, 4);
+    return d;
+}
+
+/* A split by each call that delivers: Preview, Deliver, Drain and a run. */
+static void test_split_delivered(void)
+{
+    static const uint8_t kinds[] = {SRP_EVENT_DELIVER}, operands[] = {0, 0};
+    uint64_t line = 0;
+    struct desk *d = before_split();
+
+    CHECK_PREVIEW(d, 0, SRP_REPLY_TAKEN, 1, 1, 1, 2, 1, 0);
+    CHECK_EQ(call_on(d, (struct call){SRP_EVENT_DELIVER, 0, 0}, LENT, OUT), result(SRP_REPLY_TAKEN, 1));
+    CHECK_LABEL(d->memory + SRP_LABEL_AT(1, 0), 1, 1, 2);
+    free(d);
+    d = before_split();
+    CHECK_EQ(SRP_REFUSED(srp_drain(d->memory, LENT)), false);
+    CHECK_LABEL(d->memory + SRP_LABEL_AT(1, 0), 1, 1, 2);
+    free(d);
+    d = before_split();
+    CHECK_EQ(SRP_SHORT_ANSWER(srp_run(d->memory, LENT, kinds, 1, operands, 2, &line, 1)), SRP_DONE);
+    CHECK_EQ(SRP_LINE_ANSWER(line), SRP_REPLY_TAKEN);
+    CHECK_LABEL(d->memory + SRP_LABEL_AT(1, 0), 1, 1, 2);
+    free(d);
+}
+
+/*
+ * The reset bit is still judged by the sum of the two denominators, whatever lies between the labels: station 1 has (1, 2/3), and the request
+ * 1/d; 1/2 fits, and d + 3 or not.
+ */
+static void test_reset_by_sum(void)
+{
+    for (uint32_t d = UINT32_MAX - 4; d >= UINT32_MAX - 4; d++) {
+        struct desk *k = example_after(3);
+        uint8_t *packet = k->memory + SRP_PACKET_AT(0);
+
+        put_label(k->memory + SRP_LABEL_AT(1, 0), 1, 2, 3);
+        put_label(packet + SRP_PACKET_LABEL, 1, 1, d);
+        CHECK_EQ(call_on(k, (struct call){SRP_EVENT_DELIVER, 0, 0}, LENT, OUT), result(SRP_REQUEST_SENT_ON, 2));
+        CHECK_EQ(packet[SRP_PACKET_RESET], d > UINT32_MAX - 3);
+        CHECK_LABEL(packet + SRP_PACKET_LABEL, 1, 1, d);
+        free(k);
+    }
 }
 
 /* ---- Scripts -------------------------------------------------------------------------------- */
@@ -3385,6 +3436,8 @@ int main(int argc, char **argv)
     test_new_label();
     test_splits();
     test_simplest();
+    test_split_delivered();
+    test_reset_by_sum();
     test_reading();
     test_script_start();
     test_reading_refused();
