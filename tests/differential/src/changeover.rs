@@ -10,7 +10,7 @@ use reference::label::Split;
 use reference::network::{Bytes, Network, MAX_PACKETS, MAX_STATIONS};
 
 const OTHER_LABEL: &str = "a changeover with a label that the new split would not have given";
-const OTHER_SPLIT: &str = "a label after the changeover that the old split would not have given";
+pub const OTHER_SPLIT: &str = "a label that the old split would not have given";
 const MIXED_HOP: &str = "a hop after the changeover between a label from before it and one from after it";
 const BEGINNING: &str = "a changeover before the first event";
 const END: &str = "a changeover after the last event";
@@ -18,7 +18,7 @@ const END: &str = "a changeover after the last event";
 /// What the tests of changeovers have to meet.
 pub const NAMED: [&str; 5] = [OTHER_LABEL, OTHER_SPLIT, MIXED_HOP, BEGINNING, END];
 
-/// The walks for t in memory: each hop goes lower, no station is met twice, and none has over n − 1 hops. The most hops of a walk from each station.
+/// The walks for t in memory: each hop goes lower, no station is met twice, and none has over n − 1 hops.
 fn check_walks(network: &Network, t: usize) -> Result<(), String> {
     /// The most hops from a station, after these stations.
     fn most(network: &Network, t: usize, path: &mut Vec<usize>, known: &mut [Option<usize>; MAX_STATIONS]) -> Result<usize, String> {
@@ -95,6 +95,13 @@ fn has_other_labels(script: &Script, place: usize, old: &Network) -> bool {
     network.labels != old.labels
 }
 
+/// Whether an event gives a label that the old split would not have given.
+pub fn is_other_split(before: &Network, (kind, a, b): (u8, u8, u8), after: &Network) -> bool {
+    let mut otherwise = *before;
+    let _ = otherwise.event_by(Split::Mediant, kind, a, b);
+    otherwise.labels != after.labels
+}
+
 /// A script that goes over at a place: its events after that on both builds, one by one and as one run, and the air drained at the end. After
 /// each event the walks and the tracer, for the destinations whose labels or rows it changed; before the first for all.
 fn check_at(tally: &mut Tally, script: &Script, place: usize) -> Result<(), String> {
@@ -121,11 +128,7 @@ fn check_at(tally: &mut Tally, script: &Script, place: usize) -> Result<(), Stri
             let mixed = hops.filter(|&(i, next)| next != t && taken[i][t] != taken[next][t]).count();
             tally.count_named(MIXED_HOP, mixed as u64);
         }
-        if answer == 115 {
-            let mut otherwise = *before;
-            let _ = otherwise.event_by(Split::Mediant, kind, a, b);
-            tally.count_named(OTHER_SPLIT, u64::from(otherwise.labels != after.labels));
-        }
+        tally.count_named(OTHER_SPLIT, u64::from(answer == 115 && is_other_split(before, (kind, a, b), after)));
     }
     check_made(desk.network())?;
     let ran = run(old.bytes(), &script.kinds[place..], &script.operands[2 * place..], script.kinds.len())?;

@@ -168,7 +168,7 @@ fn families() -> Vec<Family> {
             meets: &[0, 2, 3, 4, 5, 6, 7, 101, 102, 103, 104, 111, 112, 114, 115, 121, 122, 123, 131, 132],
             previews: &[6, 7, 12, 101, 102, 103, 104, 111, 112, 114, 115, 121, 122, 123],
             drains: true,
-            named: vec![serials::LOWER, serials::HIGHER],
+            named: vec![serials::LOWER, serials::HIGHER, changeover::OTHER_SPLIT],
         },
         Family {
             name: "limits",

@@ -1,6 +1,7 @@
 //! Scripts: how they are made, and the test of one.
 
 use crate::calls::{answer_of, call_of, Call, Desk, OUT, PREVIEW};
+use crate::changeover;
 use crate::program::rehearse;
 use crate::random::Random;
 use crate::serials;
@@ -401,6 +402,10 @@ pub fn check(script: &Script, random: &mut Random) -> Result<Tally, String> {
                 return Err(fails(format!("event {index} delivers {name}, which is another sending")));
             }
             tally.count_named(name, 1);
+        }
+        if answer == 115 {
+            let other = changeover::is_other_split(desk.network_before(), (kind, a, b), desk.network());
+            tally.count_named(changeover::OTHER_SPLIT, u64::from(other));
         }
         check_some_preview(&mut tally, &mut desk, random).map_err(fails)?;
         if random.percent(2) {
