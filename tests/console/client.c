@@ -1042,8 +1042,21 @@ static void test_new_label(void)
         {{0, 1, 1}, {2, 1, 2}, {1, 0, 1}, SRP_CACHED_NOT_ABOVE, 0},
         {{0, 1, 1}, {0, 1, 1}, {1, 1, 4294967294u}, 2, 4294967295u},
         {{0, 1, 1}, {0, 1, 1}, {1, 1, 4294967295u}, SRP_DOES_NOT_FIT, 0},
-        {{1, 2, 3}, {1, 2, 3}, {1, 1, 4294967292u}, 3, 4294967295u},
-        {{1, 2, 3}, {1, 2, 3}, {1, 1, 4294967293u}, SRP_DOES_NOT_FIT, 0},
+        {{1, 2, 3}, {1, 2, 3}, {1, 1, 4294967292u}, 1, 2},
+        {{1, 2, 3}, {1, 2, 3}, {1, 1, 4294967293u}, 1, 2},
+        /* The last denominator that fits, and the next: between k/(2k + 1) and 1/2 there is (k + 1)/(2k + 3), between k/(3k + 1) and 1/3
+         * there is (k + 1)/(3k + 4). */
+        {{0, 1, 1}, {1, 1, 2}, {1, 2147483646u, 4294967293u}, 2147483647u, 4294967295u},
+        {{0, 1, 1}, {1, 1, 3}, {1, 1431655764u, 4294967293u}, SRP_DOES_NOT_FIT, 0},
+        /* Between 1/d and 3/(3d + 2) there is 2/(2d + 1): 114 is not judged by the sum of the denominators. */
+        {{0, 1, 1}, {1, 1, 1431655763u}, {1, 3, 4294967291u}, 2, 2863311527u},
+        /* The ends are the cached label and the advertised one, also where the own label is above both. */
+        {{1, 2, 3}, {1, 2, 5}, {1, 1, 3}, 3, 8},
+        /* Labels that are not in lowest terms: an own label that is kept stays as it is, and q + 1 reads V's own numbers. */
+        {{1, 2, 4}, {1, 2, 3}, {1, 0, 1}, 2, 4},
+        {{0, 1, 1}, {1, 2, 4}, {1, 0, 7}, 1, 3},
+        {{0, 1, 1}, {1, 4, 6}, {1, 2, 4}, 3, 5},
+        {{0, 1, 1}, {0, 1, 1}, {1, 2, 4}, 3, 5},
         /* Out of range comes first, for each of the three. */
         {{1, 1, 1}, {0, 1, 1}, {1, 0, 1}, SRP_OUT_OF_RANGE, 0},
         {{0, 1, 2}, {0, 1, 1}, {1, 0, 1}, SRP_OUT_OF_RANGE, 0},
@@ -1097,6 +1110,88 @@ static void test_splits(void)
     }
     CHECK_EQ(newer.d, 2971215073u);
     CHECK_EQ(split(older, newer), SRP_DOES_NOT_FIT);
+}
+
+/* The ends of splits that are tried by every denominator go up to this one. */
+#define SMALL_ENDS 24
+
+/*
+ * Every two fractions with small denominators, in lowest terms or not. What is expected is found by trying: the first denominator of 1, 2, 3, ..
+ * that has a fraction strictly between.
+ */
+static void test_simplest(void)
+{
+    const struct label unassigned = {0, 1, 1};
+    struct label x = {1, 0, 0}, y = {1, 0, 0};
+
+    for (x.d = 1; x.d <= SMALL_ENDS; x.d++)
+        for (x.m = 0; x.m < x.d; x.m++)
+            for (y.d = 1; y.d <= SMALL_ENDS; y.d++)
+                for (y.m = 0; y.m < y.d; y.m++) {
+                    uint32_t m = 0, d = 1;
+
+                    if (x.m * y.d >= y.m * x.d) {
+                        CHECK_EQ(new_label(unassigned, y, x), SRP_CACHED_NOT_ABOVE);
+                        continue;
+                    }
+                    while (!(x.m * d < m * x.d && m * y.d < y.m * d))
+                        if (++m > d) {
+                            m = 0;
+                            d++;
+                        }
+                    CHECK_EQ(new_label(unassigned, y, x), result(m, d));
+                    CHECK_EQ(new_label(y, y, x), result(m, d));
+                }
+}
+
+/* The example before the reply arrives at station 1, whose cached label is now (1, 3/4): between 0/1 and 3/4 there is 1/2, and the sums are 3/5. */
+static struct desk *before_split(void)
+{
+    struct desk *d = example_after(6);
+
+    put_label(d->memory + SRP_RECORD_AT(1, 2) + SRP_RECORD_CACHED, 1, 3, 4);
+    return d;
+}
+
+/* A split by each call that delivers: Preview, Deliver, Drain and a run. */
+static void test_split_delivered(void)
+{
+    static const uint8_t kinds[] = {SRP_EVENT_DELIVER}, operands[] = {0, 0};
+    uint64_t line = 0;
+    struct desk *d = before_split();
+
+    CHECK_PREVIEW(d, 0, SRP_REPLY_TAKEN, 1, 1, 1, 2, 1, 0);
+    CHECK_EQ(call_on(d, (struct call){SRP_EVENT_DELIVER, 0, 0}, LENT, OUT), result(SRP_REPLY_TAKEN, 1));
+    CHECK_LABEL(d->memory + SRP_LABEL_AT(1, 0), 1, 1, 2);
+    free(d);
+    d = before_split();
+    CHECK_EQ(SRP_REFUSED(srp_drain(d->memory, LENT)), false);
+    CHECK_LABEL(d->memory + SRP_LABEL_AT(1, 0), 1, 1, 2);
+    free(d);
+    d = before_split();
+    CHECK_EQ(SRP_SHORT_ANSWER(srp_run(d->memory, LENT, kinds, 1, operands, 2, &line, 1)), SRP_DONE);
+    CHECK_EQ(SRP_LINE_ANSWER(line), SRP_REPLY_TAKEN);
+    CHECK_LABEL(d->memory + SRP_LABEL_AT(1, 0), 1, 1, 2);
+    free(d);
+}
+
+/*
+ * The reset bit is still judged by the sum of the two denominators, whatever lies between the labels: station 1 has (1, 2/3), and the request
+ * 1/d; 1/2 fits, and d + 3 or not.
+ */
+static void test_reset_by_sum(void)
+{
+    for (uint32_t d = UINT32_MAX - 4; d >= UINT32_MAX - 4; d++) {
+        struct desk *k = example_after(3);
+        uint8_t *packet = k->memory + SRP_PACKET_AT(0);
+
+        put_label(k->memory + SRP_LABEL_AT(1, 0), 1, 2, 3);
+        put_label(packet + SRP_PACKET_LABEL, 1, 1, d);
+        CHECK_EQ(call_on(k, (struct call){SRP_EVENT_DELIVER, 0, 0}, LENT, OUT), result(SRP_REQUEST_SENT_ON, 2));
+        CHECK_EQ(packet[SRP_PACKET_RESET], d > UINT32_MAX - 3);
+        CHECK_LABEL(packet + SRP_PACKET_LABEL, 1, 1, d);
+        free(k);
+    }
 }
 
 /* ---- Scripts -------------------------------------------------------------------------------- */
@@ -3340,6 +3435,9 @@ int main(int argc, char **argv)
     test_previews_of_errors();
     test_new_label();
     test_splits();
+    test_simplest();
+    test_split_delivered();
+    test_reset_by_sum();
     test_reading();
     test_script_start();
     test_reading_refused();

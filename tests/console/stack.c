@@ -12,6 +12,15 @@
 
 enum { STACK = 1 << 20, LIMIT = 256 * 1024, PAINT = 0xa5, ROOM = 12299 };
 
+/*
+ * The ends of the split that needs the longest search, neighbours among Fibonacci's fractions: of labels in range none needs more turns from left
+ * to right. What lies between has the denominator 4,807,526,976, which does not fit.
+ */
+#define DEEP_HIGH_M 1134903170u
+#define DEEP_HIGH_D 1836311903u
+#define DEEP_LOW_M 1836311903u
+#define DEEP_LOW_D 2971215073u
+
 /* What a call is made on. */
 struct frame {
     uint8_t memory[SRP_LENGTH];
@@ -48,7 +57,10 @@ static void call_station(struct frame *f) { f->result = srp_station(f->memory, S
 static void call_packet(struct frame *f) { f->result = srp_packet(f->memory, SRP_LENGTH, f->k, f->out, ROOM); }
 static void call_preview(struct frame *f) { f->result = srp_preview(f->memory, SRP_LENGTH, f->k, f->out, ROOM); }
 static void call_find(struct frame *f) { f->result = srp_find(f->memory + SRP_ROW_AT(8, 0), SRP_ROW_BYTES, f->a); }
-static void call_new_label(struct frame *f) { f->result = srp_new_label(1, 2, 3, 1, 2, 3, 1, 1, 2); }
+static void call_new_label(struct frame *f)
+{
+    f->result = srp_new_label(0, 1, 1, 1, DEEP_HIGH_M, DEEP_HIGH_D, 1, DEEP_LOW_M, DEEP_LOW_D);
+}
 static void call_read_script(struct frame *f)
 {
     f->result = srp_read_script(f->script, f->script_length, f->kinds, sizeof f->kinds, f->operands, sizeof f->operands);
@@ -171,6 +183,39 @@ static void deliver_all(struct frame *f)
     }
 }
 
+/* A number of so many bytes, the low byte first. */
+static void put(uint8_t *at, unsigned bytes, uint64_t number)
+{
+    for (unsigned i = 0; i < bytes; i++) at[i] = (uint8_t)(number >> 8 * i);
+}
+
+static void put_label(uint8_t *at, uint64_t s, uint32_t m, uint32_t d)
+{
+    put(at + SRP_LABEL_S, 8, s);
+    put(at + SRP_LABEL_M, 4, m);
+    put(at + SRP_LABEL_D, 4, d);
+}
+
+/* The one packet in the air is a reply whose delivery needs the longest search: station 1 knows request 1 of 2 for 0, and 3 replies to it. */
+static void put_deep_reply(struct frame *f)
+{
+    uint8_t *record = f->memory + SRP_RECORD_AT(1, 2), *packet = f->memory + SRP_PACKET_AT(0);
+    call_open(f);
+    put(record + SRP_RECORD_NUMBER, 4, 1);
+    put_label(record + SRP_RECORD_CACHED, 1, DEEP_HIGH_M, DEEP_HIGH_D);
+    record[SRP_RECORD_LAST_HOP] = 2;
+    packet[SRP_PACKET_SENDER] = 3;
+    packet[SRP_PACKET_RECEIVER] = 1;
+    packet[SRP_PACKET_KIND] = SRP_REPLY;
+    packet[SRP_PACKET_SOURCE] = 2;
+    put(packet + SRP_PACKET_NUMBER, 4, 1);
+    put_label(packet + SRP_PACKET_LABEL, 1, DEEP_LOW_M, DEEP_LOW_D);
+    f->memory[SRP_AIR_AT] = 1;
+    f->k = 0;
+    call_preview(f);
+    must(SRP_ANSWER(f->result) == SRP_DOES_NOT_FIT, "the reply that needs the longest search");
+}
+
 /*
  * The events that are measured as a run and as a rehearsal, as many as there may be: the ring below, whose station 8 seeks 0, and the errors of a
  * link that goes down; all is delivered. Traces follow.
@@ -216,6 +261,8 @@ int main(void)
     f.a = 0, f.b = 1;
     measure(&f, 0);
     deliver_all(&f);
+    put_deep_reply(&f);
+    deliver_all(&f);
 
     put_events(&f);
     measure(&f, 15);
@@ -229,6 +276,12 @@ int main(void)
     size_t rehearsed = needed_by(&f, call_rehearse);
     must(!SRP_REFUSED(f.result) && SRP_CALLS(f.result) == SRP_MAX_EVENTS, "srp_rehearse");
 
+    put_deep_reply(&f);
+    f.kinds[0] = SRP_EVENT_DELIVER;
+    f.operands[0] = f.operands[1] = 0;
+    measure(&f, 18);
+    must(SRP_LINE_ANSWER(f.lines[0]) == SRP_DOES_NOT_FIT, "srp_run, the longest search");
+
     printf("bytes of stack:\n");
     report("srp_open", opened);
     report("srp_deliver", most_deliver);
@@ -241,5 +294,6 @@ int main(void)
     report("srp_find", needed_by(&f, call_find));
     must(!SRP_REFUSED(f.result), "srp_find");
     report("srp_new_label", needed_by(&f, call_new_label));
+    must(f.result == SRP_DOES_NOT_FIT, "srp_new_label");
     return 0;
 }

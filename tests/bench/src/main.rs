@@ -382,18 +382,42 @@ fn label_times(new_label: fn(Label, Label, Label) -> u64, triples: &[[Label; 3]]
 fn bench_labels() {
     heading("Nanoseconds for each New label, over 4,096 triples of labels.");
     let mut random = Random::new(1);
-    let split = [UNASSIGNED, Label::new(1, 2, 3), Label::new(1, 1, 2)];
-    let mut some = || {
-        let mut label = || {
-            let d = random.between(2, 1 << 30) as u32;
-            Label::new(random.between(1, 2) as u64, random.below(d as usize) as u32, d)
-        };
-        [label(), label(), label()]
+    let mut some = |s: usize, most: usize| {
+        let d = random.between(2, most) as u32;
+        Label::new(random.between(1, s) as u64, random.below(d as usize) as u32, d)
     };
-    let mixed: Vec<_> = (0..4096).map(|_| some()).collect();
-    for (what, triples) in [("always a split", vec![split; 4096]), ("random labels", mixed)] {
+    let mixed = (0..4096).map(|_| [(); 3].map(|()| some(2, 1 << 30))).collect();
+    let mut splits = |most: usize| -> Vec<[Label; 3]> {
+        let pairs = std::iter::repeat_with(|| [some(1, most), some(1, most)]);
+        pairs
+            .filter(|[cached, advertised]| cached.above(*advertised))
+            .map(|[cached, advertised]| [UNASSIGNED, cached, advertised])
+            .take(4096)
+            .collect()
+    };
+    let (small, large) = (splits(16), splits(u32::MAX as usize));
+    let near = large.iter().map(|&[own, cached, _]| [own, cached, below(cached)]).collect();
+    let split = [UNASSIGNED, Label::new(1, 2, 3), Label::new(1, 1, 2)];
+    // Neighbours among Fibonacci's fractions; between them nothing fits.
+    let longest = [UNASSIGNED, Label::new(1, 1_134_903_170, 1_836_311_903), Label::new(1, 1_836_311_903, 2_971_215_073)];
+    for (what, triples) in [
+        ("always a split, 2/3 and 1/2", vec![split; 4096]),
+        ("random labels", mixed),
+        ("splits of random ends, denominators up to 16", small),
+        ("splits of random ends, denominators of 32 bits", large),
+        ("splits of random ends of 32 bits that are near each other", near),
+        ("the longest search: Fibonacci's fractions (114)", vec![longest; 4096]),
+    ] {
+        for &[own, cached, advertised] in &triples {
+            assert_eq!(library::new_label(own, cached, advertised), reference::console::new_label(own, cached, advertised));
+        }
         Times::of(|| (label_times(library::new_label, &triples), label_times(reference::console::new_label, &triples))).print(what);
     }
+}
+
+/// The next lower label of the same denominator, or the lowest.
+fn below(label: Label) -> Label {
+    Label { m: label.m.saturating_sub(1), ..label }
 }
 
 fn bench_script_bytes(script: &Script) {

@@ -1,6 +1,7 @@
 //! Differential tests: the proved library, through its C entry points, and the rehearsal program against the Rust build.
 
 pub mod calls;
+pub mod changeover;
 pub mod damage;
 pub mod labels;
 pub mod limits;

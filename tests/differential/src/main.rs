@@ -1,6 +1,7 @@
 //! Runs the differential tests.
 //!
 //!     differential               all families
+//!     differential FAMILY        one family
 //!     differential FAMILY CASE   one case again
 //!     differential script HEX..  one script again
 //!
@@ -10,7 +11,7 @@
 use differential::random::Random;
 use differential::scripts::{self, Script};
 use differential::tally::{Tally, ANSWERS};
-use differential::{damage, labels, limits, networks, program, rows, runs, script_bytes, serials, versions};
+use differential::{changeover, damage, labels, limits, networks, program, rows, runs, script_bytes, serials, versions};
 use std::panic::{catch_unwind, AssertUnwindSafe};
 use std::process::ExitCode;
 use std::sync::atomic::{AtomicBool, AtomicU64, AtomicUsize, Ordering::Relaxed};
@@ -47,16 +48,20 @@ const TRIPLES: usize = 10_000;
 
 fn families() -> Vec<Family> {
     let scripts = examples();
-    let [for_damage, for_memory, for_clauses, for_versions, for_limits] = [(); 5].map(|()| scripts.clone());
+    let [for_damage, for_memory, for_clauses, for_versions, for_limits, for_changeovers] = [(); 6].map(|()| scripts.clone());
     vec![
         Family {
             name: "labels",
-            cases: 1 + 1_000_000 / TRIPLES,
-            check: Box::new(|case| if case == 0 { labels::check_cases() } else { labels::check_random(case, TRIPLES) }),
+            cases: 2 + 4_000_000 / TRIPLES,
+            check: Box::new(|case| match case {
+                0 => labels::check_cases(),
+                1 => labels::check_small(),
+                _ => labels::check_random(case, TRIPLES),
+            }),
             meets: &[0, 1, 112, 113, 114],
             previews: &[],
             drains: false,
-            named: vec![],
+            named: labels::NAMED.to_vec(),
         },
         Family {
             name: "rows",
@@ -163,7 +168,7 @@ fn families() -> Vec<Family> {
             meets: &[0, 2, 3, 4, 5, 6, 7, 101, 102, 103, 104, 111, 112, 114, 115, 121, 122, 123, 131, 132],
             previews: &[6, 7, 12, 101, 102, 103, 104, 111, 112, 114, 115, 121, 122, 123],
             drains: true,
-            named: vec![serials::LOWER, serials::HIGHER],
+            named: vec![serials::LOWER, serials::HIGHER, changeover::OTHER_SPLIT],
         },
         Family {
             name: "limits",
@@ -173,6 +178,15 @@ fn families() -> Vec<Family> {
             previews: &[],
             drains: false,
             named: vec![limits::OF_128, limits::OF_ANOTHER, limits::NOT_REACHED],
+        },
+        Family {
+            name: "changeovers",
+            cases: 1_600,
+            check: Box::new(move |case| changeover::check(case, &for_changeovers)),
+            meets: &[0, 2, 3, 4, 5, 6, 7, 101, 102, 103, 104, 111, 112, 114, 115, 121, 122, 123, 131, 132],
+            previews: &[],
+            drains: true,
+            named: changeover::NAMED.to_vec(),
         },
     ]
 }
@@ -241,10 +255,10 @@ fn missed<'a>(to_meet: &'a [u32], met: &'a [u64; ANSWERS]) -> impl Iterator<Item
     to_meet.iter().copied().filter(|&answer| met[answer as usize] == 0)
 }
 
-fn check_all() -> ExitCode {
-    let families = families();
+/// These families.
+fn check_all(families: &[Family]) -> ExitCode {
     let mut tallies = Vec::new();
-    for family in &families {
+    for family in families {
         let began = Instant::now();
         match check_family(family) {
             Ok(tally) => {
@@ -342,15 +356,19 @@ fn check_script(hex: &str) -> ExitCode {
 }
 
 fn usage() -> ExitCode {
-    eprintln!("usage: differential [FAMILY CASE | script HEX..]");
+    eprintln!("usage: differential [FAMILY [CASE] | script HEX..]");
     ExitCode::from(2)
 }
 
 fn main() -> ExitCode {
     let arguments: Vec<String> = std::env::args().skip(1).collect();
     match arguments.iter().map(String::as_str).collect::<Vec<_>>()[..] {
-        [] => check_all(),
+        [] => check_all(&families()),
         ["script", ref hex @ ..] => check_script(&hex.concat()),
+        [name] => match families().iter().position(|family| family.name == name) {
+            Some(at) => check_all(&families()[at..=at]),
+            None => usage(),
+        },
         [name, case] => check_again(name, case),
         _ => usage(),
     }

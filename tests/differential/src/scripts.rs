@@ -1,11 +1,13 @@
 //! Scripts: how they are made, and the test of one.
 
 use crate::calls::{answer_of, call_of, Call, Desk, OUT, PREVIEW};
+use crate::changeover;
 use crate::program::rehearse;
 use crate::random::Random;
 use crate::serials;
 use crate::tally::Tally;
-use reference::network::{Network, ERROR, LENGTH, MAX_PACKETS, REQUEST};
+use reference::label::{Split, UNASSIGNED};
+use reference::network::{Network, ERROR, LENGTH, MAX_PACKETS, MAX_SUCCESSORS, REQUEST};
 use reference::script::{self, DELIVER, DOWN, DUPLICATE, EXPIRE, GIVE_UP, LOSE, MAX_EVENTS, SOLICIT, TRACE, UP};
 
 /// A script before it is bytes.
@@ -63,21 +65,50 @@ pub struct Style {
     front: usize,
     /// Whether errors are late: in every other stretch of events they stay in the air.
     late_errors: bool,
+    /// Whether one station is sought by all, and the stations that have a label for it move: each that does has new neighbours, and seeks again.
+    moves: bool,
 }
 
 /// How many events a stretch has.
 const STRETCH: usize = 40;
 
+/// The most events that a station's move has: a link down for each successor, two up, and Solicit.
+const MOVE: usize = MAX_SUCCESSORS + 3;
+
 pub const STYLES: [Style; 5] = [
-    Style { name: "packets in order", weights: [1, 1, 6, 2, 1, 60, 1, 1, 5], wild: 0, front: 95, late_errors: false },
-    Style { name: "packets late, twice or never", weights: [1, 1, 5, 3, 2, 35, 8, 12, 4], wild: 2, front: 30, late_errors: true },
-    Style { name: "links that come and go", weights: [9, 8, 6, 3, 3, 45, 2, 2, 5], wild: 2, front: 60, late_errors: true },
-    Style { name: "an air that is nearly full", weights: [2, 1, 14, 12, 2, 22, 1, 30, 2], wild: 1, front: 50, late_errors: false },
-    Style { name: "operands of any value", weights: [4, 2, 3, 2, 2, 8, 2, 2, 3], wild: 50, front: 50, late_errors: false },
+    Style { name: "packets in order", weights: [1, 1, 6, 2, 1, 60, 1, 1, 5], wild: 0, front: 95, late_errors: false, moves: false },
+    Style {
+        name: "packets late, twice or never",
+        weights: [1, 1, 5, 3, 2, 35, 8, 12, 4],
+        wild: 2,
+        front: 30,
+        late_errors: true,
+        moves: false,
+    },
+    Style { name: "links that come and go", weights: [9, 8, 6, 3, 3, 45, 2, 2, 5], wild: 2, front: 60, late_errors: true, moves: false },
+    Style {
+        name: "an air that is nearly full",
+        weights: [2, 1, 14, 12, 2, 22, 1, 30, 2],
+        wild: 1,
+        front: 50,
+        late_errors: false,
+        moves: false,
+    },
+    Style { name: "operands of any value", weights: [4, 2, 3, 2, 2, 8, 2, 2, 3], wild: 50, front: 50, late_errors: false, moves: false },
 ];
 
+/// Labels are split again and again, between others than neighbours too.
+pub const MOVING: Style = Style {
+    name: "stations that move, and one that all seek",
+    weights: [1, 1, 6, 4, 4, 60, 2, 1, 3],
+    wild: 0,
+    front: 90,
+    late_errors: false,
+    moves: true,
+};
+
 /// Starts at the ends of 64 bits and between.
-fn some_start(random: &mut Random) -> u64 {
+pub fn some_start(random: &mut Random) -> u64 {
     match random.below(6) {
         0 | 1 => 1,
         2 => u64::MAX,
@@ -91,23 +122,26 @@ fn some_start(random: &mut Random) -> u64 {
 struct Growing {
     script: Script,
     network: Box<Network>,
+    /// So many of the first events split the old way.
+    old: usize,
 }
 
 impl Growing {
-    fn new(n: usize, start: u64) -> Growing {
-        Growing { script: Script { n, start, kinds: vec![], operands: vec![] }, network: Network::fresh(n, start, MAX_PACKETS) }
+    fn new(n: usize, start: u64, old: usize) -> Growing {
+        Growing { script: Script { n, start, kinds: vec![], operands: vec![] }, network: Network::fresh(n, start, MAX_PACKETS), old }
     }
 
     fn push(&mut self, kind: u8, a: u8, b: u8) {
+        let split = if self.script.kinds.len() < self.old { Split::Mediant } else { Split::Simplest };
         self.script.kinds.push(kind);
         self.script.operands.extend([a, b]);
-        let _ = self.network.event(kind, a, b);
+        let _ = self.network.event_by(split, kind, a, b);
     }
 
     /// A tree over the stations, and some links more.
-    fn push_links(&mut self, random: &mut Random, room: usize) {
+    fn push_links(&mut self, random: &mut Random, room: usize, style: &Style) {
         let n = self.script.n;
-        let density = random.of(&[0, 10, 30, 100]);
+        let density = random.of(&[0, 10, 30, 100]) / if style.moves { 10 } else { 1 };
         let tree = random.below(3);
         for b in 1..n {
             let parent = match tree {
@@ -132,7 +166,7 @@ impl Growing {
         let chosen = match kind {
             UP => random.among(pairs().filter(|&(a, b)| !network.link(a, b))),
             DOWN => random.among(pairs().filter(|&(a, b)| network.link(a, b))),
-            SOLICIT => random.among(pairs().filter(|&(a, _)| network.kept[a].active == 0)),
+            SOLICIT => random.among(pairs().filter(|&(a, t)| network.kept[a].active == 0 && !(style.moves && t > 0))),
             GIVE_UP => random.among((0..n).filter(|&a| network.kept[a].active == 1).map(|a| (a, 0))),
             EXPIRE => random.among(pairs().filter(|&(a, t)| !network.rows[a][t].is_empty())),
             DELIVER | LOSE | DUPLICATE => self.some_packet(random, style).map(|k| (k, 0)),
@@ -181,6 +215,27 @@ impl Growing {
         self.push(SOLICIT, j as u8, t as u8);
     }
 
+    /// A station that has a label for station 0 loses its successors' links, gets one or two to stations that are above it, mostly, and seeks 0
+    /// again. Nothing where no station is so.
+    fn push_move(&mut self, random: &mut Random) {
+        let n = self.script.n;
+        let movers = (1..n).filter(|&i| self.network.labels[i][0] != UNASSIGNED && self.network.kept[i].active == 0);
+        let Some(i) = random.among(movers) else { return };
+        let lost: Vec<_> = self.network.rows[i][0].successors().iter().map(|entry| entry.station).collect();
+        for j in lost {
+            self.push(DOWN, i as u8, j);
+        }
+        for _ in 0..random.between(1, 2) {
+            let any = random.percent(10);
+            let above = |j: usize| self.network.labels[j][0].above(self.network.labels[i][0]);
+            let others = (0..n).filter(|&j| j != i && !self.network.link(i, j) && (any || above(j)));
+            if let Some(j) = random.among(others) {
+                self.push(UP, i as u8, j as u8);
+            }
+        }
+        self.push(SOLICIT, i as u8, 0);
+    }
+
     /// Any kind with any operands, most of them near the numbers of stations and packets.
     fn push_wild(&mut self, random: &mut Random) {
         let kind = random.between(usize::from(UP), usize::from(TRACE)) as u8;
@@ -197,6 +252,8 @@ impl Growing {
         while self.script.kinds.len() < events {
             if random.percent(style.wild) {
                 self.push_wild(random);
+            } else if style.moves && self.script.kinds.len() + MOVE <= events && random.percent(5) {
+                self.push_move(random);
             } else if self.holds_errors(style) && self.script.kinds.len() + 3 <= events && random.percent(20) {
                 self.push_parting(random);
             } else {
@@ -208,20 +265,25 @@ impl Growing {
 
 /// A script of a style, of a network of n stations.
 pub fn styled(random: &mut Random, style: &Style, n: usize, start: u64, events: usize) -> Script {
-    let mut growing = Growing::new(n, start);
+    styled_over(random, style, n, start, events, 0)
+}
+
+/// One of which so many of the first events split the old way.
+pub fn styled_over(random: &mut Random, style: &Style, n: usize, start: u64, events: usize, old: usize) -> Script {
+    let mut growing = Growing::new(n, start, old);
     if !random.percent(10) {
-        growing.push_links(random, events);
+        growing.push_links(random, events, style);
     }
     growing.grow(random, style, events);
     growing.script
 }
 
 /// A script that begins with the events of an example, all or most of them, and goes on in a style. Mostly it is the longest, which
-/// leads to the largest denominators.
-fn continued(random: &mut Random, style: &Style, examples: &[Script], start: u64, events: usize) -> Script {
+/// leads to the largest denominators. So many of its first events split the old way.
+pub fn continued(random: &mut Random, style: &Style, examples: &[Script], start: u64, events: usize, old: usize) -> Script {
     let longest = examples.iter().max_by_key(|script| script.kinds.len()).unwrap();
     let first = if random.percent(60) { longest } else { &examples[random.below(examples.len())] };
-    let mut growing = Growing::new(first.n, start);
+    let mut growing = Growing::new(first.n, start, old);
     let all = first.kinds.len();
     let taken = if random.percent(50) { all } else { random.between(2 * all / 3, all) };
     for (_, kind, a, b) in first.events().take(taken) {
@@ -244,7 +306,7 @@ pub fn script_of(case: usize, examples: &[Script]) -> Script {
     };
     let start = some_start(&mut random);
     if round % 7 == 6 {
-        continued(&mut random, style, examples, start, events)
+        continued(&mut random, style, examples, start, events, 0)
     } else {
         styled(&mut random, style, n, start, events)
     }
@@ -340,6 +402,10 @@ pub fn check(script: &Script, random: &mut Random) -> Result<Tally, String> {
                 return Err(fails(format!("event {index} delivers {name}, which is another sending")));
             }
             tally.count_named(name, 1);
+        }
+        if answer == 115 {
+            let other = changeover::is_other_split(desk.network_before(), (kind, a, b), desk.network());
+            tally.count_named(changeover::OTHER_SPLIT, u64::from(other));
         }
         check_some_preview(&mut tally, &mut desk, random).map_err(fails)?;
         if random.percent(2) {

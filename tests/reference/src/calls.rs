@@ -1,7 +1,7 @@
-//! 01, "What each call does", on memory in range, as 02's F-4 and F-5 amend it. A call that is turned down ends with the first number of
+//! 01, "What each call does", on memory in range, as 02's F-4, F-5 and F-6 amend it. A call that is turned down ends with the first number of
 //! 01's table that applies, before it writes anything; the tests come in 01's order, with 13 in its place: 2, 3 to 6, 8, 13, 7.
 
-use crate::label::{new_label, Label, UNASSIGNED};
+use crate::label::{new_label, Label, Split, UNASSIGNED};
 use crate::network::{Network, Packet, Preview, Record, Station, Successor, ERROR, NO_PACKET, NO_PREVIEW, NO_ROW, REPLY, REQUEST};
 
 /// What an accepted call tells: its outcome number (0: none), the packets that it sent, and Trace's hops.
@@ -156,10 +156,14 @@ impl Network {
 
     /// "Deliver(k): removes packet k, later ones move up, then the receiver i acts."
     pub fn deliver(&mut self, k: usize) -> Answer {
+        self.deliver_by(Split::Simplest, k)
+    }
+
+    pub fn deliver_by(&mut self, split: Split, k: usize) -> Answer {
         self.test_packet(k)?;
         match self.packets[k].kind {
             REQUEST => self.deliver_request(k),
-            REPLY => self.deliver_reply(k),
+            REPLY => self.deliver_reply(split, k),
             _ => self.deliver_error(k),
         }
     }
@@ -216,7 +220,7 @@ impl Network {
     }
 
     /// It sends one packet at most, in the place of the one that is gone, so it is never turned down with 7.
-    fn deliver_reply(&mut self, k: usize) -> Answer {
+    fn deliver_reply(&mut self, split: Split, k: usize) -> Answer {
         let v = self.packets[k];
         let (i, source, t) = (usize::from(v.receiver), usize::from(v.source), usize::from(v.destination));
         // "111, nothing done, if i is the destination, or V's number and destination don't both match (at the source: its last request;
@@ -233,7 +237,7 @@ impl Network {
         }
         // "New label with i's label: 112, 113, 114 set nothing."
         let own = self.labels[i][t];
-        let taken = new_label(own, cached, v.label);
+        let taken = new_label(split, own, cached, v.label);
         // "if i isn't the source, hasn't passed a reply, has a non-empty row, C is above its label and the last hop's link is up, it
         // sends a reply with its label there and marks the record." A label that is taken leaves j in the row.
         let passes_on = i != source

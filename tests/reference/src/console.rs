@@ -2,7 +2,7 @@
 //! `drain`, `run` and `rehearse` have the answer in their lowest 16 bits and two counts of 24 bits above it.
 
 use crate::calls::{Answer, Drained};
-use crate::label::{new_label as new_label_in_range, Label};
+use crate::label::{new_label as new_label_in_range, Label, Split};
 use crate::network::{Bytes, Network, Row, MAX_STATIONS, MAX_SUCCESSORS};
 use crate::printout;
 use crate::running::Tally;
@@ -236,7 +236,7 @@ pub fn new_label(own: Label, cached: Label, advertised: Label) -> u64 {
     if !(own.in_range() && cached.in_range() && advertised.in_range()) {
         return result(1, 0);
     }
-    match new_label_in_range(own, cached, advertised) {
+    match new_label_in_range(Split::Simplest, own, cached, advertised) {
         Ok(label) => result(label.m, label.d),
         Err(number) => result(number, 0),
     }

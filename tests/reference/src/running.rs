@@ -1,6 +1,7 @@
 //! Events of a script, runs of them, and their tally (01, "Scripts and the printout"; 02, F-5).
 
 use crate::calls::{Answer, Done};
+use crate::label::Split;
 use crate::network::Network;
 use crate::script;
 
@@ -36,6 +37,10 @@ impl Line {
 impl Network {
     /// An event of a script on memory in range: the call of its kind.
     pub fn event(&mut self, kind: u8, a: u8, b: u8) -> Answer {
+        self.event_by(Split::Simplest, kind, a, b)
+    }
+
+    pub fn event_by(&mut self, split: Split, kind: u8, a: u8, b: u8) -> Answer {
         let (a, b) = (usize::from(a), usize::from(b));
         match kind {
             script::UP => self.up(a, b),
@@ -43,7 +48,7 @@ impl Network {
             script::SOLICIT => self.solicit(a, b),
             script::GIVE_UP => self.give_up(a),
             script::EXPIRE => self.expire(a, b),
-            script::DELIVER => self.deliver(a),
+            script::DELIVER => self.deliver_by(split, a),
             script::LOSE => self.lose(a),
             script::DUPLICATE => self.duplicate(a),
             script::TRACE => self.trace(a, b),
