@@ -2,11 +2,11 @@
 use Prim.Native.Nat.{ℕ, _<_, _≤_}
 use mathlib.Core.Path.{_≡_, refl, sym, _∙_}
 use mathlib.Core.Logic.{_⊎_, inl, inr}
-use mathlib.Core.Bool.{Bool, true, false}
+use mathlib.Core.Bool.{Bool, true, false, _&&_}
 use native.Mathlib.Nat.{lt-of-lt-of-le}
 use native.Mathlib.Omega.{arith}
-use lib.Dec.{ltb}
-use borrow.Author.Tests.{lt-ltb, le-ltb, eq-eqb, ltb-true, ltb-false}
+use lib.Dec.{ltb, leb}
+use borrow.Author.Tests.{lt-ltb, le-ltb, le-leb, eq-eqb, ltb-true, ltb-false}
 use Rattle.base.specs.Numbers.{maxU32}
 use Rattle.base.proofs.Booleans.{clash}
 use Rattle.fraction.specs.declared.Fraction.{Fraction}
@@ -15,7 +15,7 @@ use Rattle.fraction.proofs.Simplest.{simplest-is, between-proper}
 use Rattle.label.specs.declared.Label.{Label}
 use Rattle.label.specs.Label.{label, inRange, above, _≻_, _⪰_, Outcome, took, gave, fractionOf, fitting, next, Splitting, split, mediant, SplitRule, newLabelBy, newLabel, newLabelCall, MaintainsOrder, KeepsOrder}
 use Rattle.label.proofs.Range.{assigned-in-range, range-cases, InRange, is-unassigned, is-assigned, range-fraction, range-assigned}
-use Rattle.label.proofs.Order.{above-lower, above-higher, Ordered, by-number, by-fraction, ≻-ordered, ordered-≻, ≻-number, above-same, ≻-irreflexive, ≻-asymmetric, ⪰-≻-transitive}
+use Rattle.label.proofs.Order.{above-lower, above-higher, Ordered, by-number, by-fraction, ≻-ordered, ordered-≻, ≻-number, ⪰-number, above-same, ≻-irreflexive, ≻-asymmetric, ⪰-≻-transitive}
 
 -- A denominator that fits, and one that doesn't.
 pub fitting-fits : (s m d : ℕ) → d ≤ maxU32 → fitting s m d ≡ took (label s m d)
@@ -82,6 +82,20 @@ module _ (splits : Splitting) (a c v : Label) where
     pub new-split : v .s .0 ≤ a .s .0 → above c a ≡ false → newLabelBy splits a c v ≡ splits c v
     unfolding newLabelBy
     new-split la h = simp (ha, hc, le-ltb _ _ la, h)
+
+    -- A split is what is left, and then the cached label has the advertised sequence number.
+    pub new-split-left : ltb (a .s .0) (v .s .0) && ltb (c .s .0) (v .s .0) ≡ false → leb (v .s .0) (a .s .0) && above c a ≡ false
+        → (newLabelBy splits a c v ≡ splits c v) × (c .s .0 ≡ v .s .0)
+    new-split-left p q = go (ltb (a .s .0) (v .s .0)) refl
+      where
+        go : (t : Bool) → ltb (a .s .0) (v .s .0) ≡ t → (newLabelBy splits a c v ≡ splits c v) × (c .s .0 ≡ v .s .0)
+        go true e =
+            let least = ltb-false (c .s .0) (v .s .0) (rw e at p) in
+            (new-split-cached (ltb-true _ _ e) least, omega (arith, ≻-number c v hc))
+        go false e =
+            let least = ltb-false (a .s .0) (v .s .0) e in
+            let below = rw (le-leb (v .s .0) (a .s .0) least) at q in
+            (new-split least below, omega (arith, ≻-number c v hc, ⪰-number a c below))
 
     -- Where the own and the cached label are above the advertised one.
     taken-above : {g : Label} → newLabelBy splits a c v ≡ took g → Ordered _<_ a v → Ordered _<_ c v → (t : Bool) → above c a ≡ t → Taken splits a c v g

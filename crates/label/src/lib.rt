@@ -151,13 +151,10 @@ pub fn new_label_in_range(a: Label, c: Label, v: Label) -> NewLabel
     let own = a.s.0;
     let cached = c.s.0;
     let advertised = v.s.0;
-    if own < advertised {
-        if cached < advertised {
-            return next_of(v);
-        }
-        return split_of(c, v);
+    if (own < advertised) & (cached < advertised) {
+        return next_of(v);
     }
-    if is_above(c, a) {
+    if (advertised <= own) & is_above(c, a) {
         return NewLabel::Took(a);
     }
     split_of(c, v)

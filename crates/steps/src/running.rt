@@ -28,10 +28,6 @@ use decisions::cutting::cut_of;
 use decisions::cutting::cut_row;
 use decisions::cutting::turns_of;
 use decisions::cutting::with_rows;
-use refusing::refusal;
-use refusing::sending_refusal;
-use tracing::Walk;
-use tracing::advance;
 use label::label_of;
 use model::most_hops;
 use network::Air;
@@ -39,12 +35,16 @@ use network::Memory;
 use network::packets::error;
 use network::places::pair_place;
 use network::places::place;
+use refusing::refusal;
+use refusing::sending_refusal;
 use station::Holding;
 use station::sending::copies;
 use station::sending::error_scope;
 use station::sending::exchange;
 use station::sending::transmit;
 use telling::lines::line;
+use tracing::Walk;
+use tracing::advance;
 use validation::AIR_LIMIT;
 
 // Events one after the other: those of a list, whose lines the lent array tells; or, where the run drains the air, packet 0 delivered or lost

@@ -1,11 +1,10 @@
 -- `label::new_label_in_range` meets its contract: each answer by its case of the definition.
-use mathlib.Core.Path.{sym, _∙_}
-use native.Mathlib.Omega.{arith}
+use mathlib.Core.Path.{_≡_, sym, _∙_}
 use borrow.Author.Needs.{needs}
-use Rattle.base.proofs.Booleans.{was-true, was-false, not-was-true, not-was-false}
-use Rattle.label.specs.Label.{_≻_}
-use Rattle.label.proofs.Order.{≻-number, ⪰-number}
-use Rattle.label.proofs.New.{≻-smaller, new-112, new-113, new-next, new-split-cached, new-own, new-split}
+use borrow.Author.Tests.{ltb-true, leb-true}
+use Rattle.base.proofs.Booleans.{both, not-was-true, not-was-false}
+use Rattle.label.specs.Label.{_≻_, split, newLabel}
+use Rattle.label.proofs.New.{≻-smaller, new-112, new-113, new-next, new-own, new-split-left}
 use Rattle.label.proofs.new_label_in_range.Statement.{statement}
 use Rattle.label.proofs.new_label_in_range.Tie as tie
 
@@ -33,38 +32,32 @@ next-of-requires c κs = search needs
 
 returns-3 : tie.Need-returns-3
 returns-3 c =
-    let past = c .before .before .before in
-    c .next-of .ensures ∙ sym (new-next _ _ _ _ (own (past .before .before)) (cached past) (omega arith) (omega arith))
-
-split-of-requires : tie.Need-split-of-requires
-split-of-requires c κs =
     let past = c .before .before in
-    (search needs, ≻-smaller _ _ (cached past) (omega (arith, ≻-number _ _ (cached past))))
-
-returns-4 : tie.Need-returns-4
-returns-4 c =
-    let past = c .before .before .before in
-    c .split-of .ensures .0 ∙ sym (new-split-cached _ _ _ _ (own (past .before .before)) (cached past) (omega arith) (omega arith))
+    let both-lower = both _ _ (c .before .if3 .taken) in
+    c .next-of .ensures ∙ sym (new-next _ _ _ _ (own (past .before .before)) (cached past) (ltb-true _ _ (both-lower .0)) (ltb-true _ _ (both-lower .1)))
 
 is-above-requires-3 : tie.Need-is-above-requires-3
 is-above-requires-3 c κs = search needs
 
+returns-4 : tie.Need-returns-4
+returns-4 c =
+    let past = c .before .before .before in
+    let (least, higher) = both _ _ (rw (c .before .is-above3 .ensures) at (c .if4 .taken)) in
+    sym (new-own _ _ _ _ (own (past .before .before)) (cached past) (leb-true _ _ least) higher)
+
+-- Past the last test a split is left.
+splits : (c : tie.Else4)
+    → let args = c .before .before .before .before .before .before .before .args in
+    (newLabel (args .a) (args .c) (args .v) ≡ split (args .c) (args .v)) × (args .c .s .0 ≡ args .v .s .0)
+splits c =
+    let past = c .before .before .before in
+    new-split-left _ _ _ _ (own (past .before .before)) (cached past) (c .before .before .if3 .left) (rw (c .before .is-above3 .ensures) at (c .if4 .left))
+
+split-of-requires : tie.Need-split-of-requires
+split-of-requires c κs = (search needs, ≻-smaller _ _ (cached (c .before .before .before)) (splits c .1))
+
 returns-5 : tie.Need-returns-5
-returns-5 c =
-    let past = c .before .before .before in
-    sym (new-own _ _ _ _ (own (past .before .before)) (cached past) (omega arith) (was-true _ _ (c .before .is-above3 .ensures) (c .if5 .taken)))
-
-split-of-requires-2 : tie.Need-split-of-requires-2
-split-of-requires-2 c κs =
-    let past = c .before .before .before in
-    let least = was-false _ _ (c .before .is-above3 .ensures) (c .if5 .left) in
-    (search needs, ≻-smaller _ _ (cached past) (omega (arith, ≻-number _ _ (cached past), ⪰-number _ _ least)))
-
-returns-6 : tie.Need-returns-6
-returns-6 c =
-    let past = c .before .before .before .before in
-    c .split-of2 .ensures .0
-    ∙ sym (new-split _ _ _ _ (own (past .before .before)) (cached past) (omega arith) (was-false _ _ (c .before .before .is-above3 .ensures) (c .before .if5 .left)))
+returns-5 c = c .split-of .ensures .0 ∙ sym (splits (c .before) .0)
 
 pub new-label-in-range-spec : {M : Type 1} → statement M
 new-label-in-range-spec =
@@ -76,9 +69,7 @@ new-label-in-range-spec =
     returns-2
     next-of-requires
     returns-3
-    split-of-requires
-    returns-4
     is-above-requires-3
-    returns-5
-    split-of-requires-2
-    returns-6)
+    returns-4
+    split-of-requires
+    returns-5)
