@@ -31,7 +31,7 @@ fn left(x: Fraction, y: Fraction) -> Fraction
     }
 }
 
-// The simplest fraction strictly between x and y, where x is at least 1, by a run to the right: a step takes m/d to (m − d)/d, as long as x is
+// The simplest fraction strictly between x and y by a run to the right: a step takes m/d to (m − d)/d, as long as x is
 // at least 1, and the run's k steps are taken at once. Then 1/1 lies between the two, or y is at most 1 and a run to the left follows.
 fn right(x: Fraction, y: Fraction) -> Fraction
     requires { ⌜ Searched x y ⌝ }

@@ -90,6 +90,7 @@ newLabelBy splits a c v =
     else if above c a then took a
     else splits c v
 
+-- By the rule of F-6. So it is with every name that stands beside one ending in `By`.
 abbrev pub newLabel : Label → Label → Label → Outcome
 newLabel = newLabelBy split
 
@@ -112,7 +113,7 @@ pub record MaintainsOrder (a c v g : Label) : Type 0 where
   pub advertised : g ≻ v
   pub ranged : inRange g ≡ true
 
--- Each label in range that New label takes, by this rule for splits, maintains order.
+-- The label that New label takes, by this rule for splits, maintains order, where the three labels are in range.
 abbrev pub KeepsOrder : Splitting → Type 0
 KeepsOrder splits =
     (a c v g : Label) → inRange a ≡ true → inRange c ≡ true → inRange v ≡ true → newLabelBy splits a c v ≡ took g → MaintainsOrder a c v g
