@@ -38,11 +38,11 @@ use Rattle.script.specs.Contracts.{foundOf, inArrays, Reads}
 use Rattle.script.proofs.ScriptLaws.{Positive, Parsed, operands-length, reading-ends, reading-whole, found-refused, reads-script}
 use Rattle.script.proofs.RoundTrip.{read-opens, too-long}
 use Rattle.printout.specs.declared.rehearsal.Rehearsed.{Rehearsed}
-use Rattle.printout.specs.Text.{refusalText, eventText, labelText, rehearsalText}
-use Rattle.printout.specs.Contracts.{PutsAt}
+use Rattle.text.specs.Text.{refusalText, eventText, labelText, rehearsalText}
+use Rattle.text.specs.Contracts.{PutsAt}
 use Rattle.printout.specs.Printed.{Rehearsal, rehearsalOf, printoutRoom, rehearsing, rehearsed, rehearsedOf, Rehearses, textOf, programs, PrintsResult, Prints}
 use Rattle.printout.specs.Printed.{RoutesLoopFree, TallyFits}
-use Rattle.printout.proofs.TextLaws.{puts-over}
+use Rattle.text.proofs.TextLaws.{puts-over}
 
 -- The line of an event has its index, kind and operands.
 module _ (index kind a b : ℕ) (net : Network) where

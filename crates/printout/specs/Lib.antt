@@ -1,4 +1,2 @@
-pub mod Text
 pub mod Printed
-pub mod Contracts
 pub mod Sample

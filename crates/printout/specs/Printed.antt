@@ -16,7 +16,7 @@ use Rattle.model.specs.Tally.{Tally, tallyOf, HighestFits}
 use Rattle.codec.specs.Bytes.{putInto, over}
 use Rattle.script.specs.Script.{Script, reading}
 use Rattle.printout.specs.declared.rehearsal.Rehearsed.{Rehearsed}
-use Rattle.printout.specs.Text.{refusalText, rehearsalText}
+use Rattle.text.specs.Text.{refusalText, rehearsalText}
 
 -- "The tally is returned and not printed" (02, F-5): it stands beside the text.
 pub record Rehearsal : Type 0 where

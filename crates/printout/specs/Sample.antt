@@ -14,7 +14,7 @@ use Rattle.model.specs.Events.{eventLimit, usesOne, notEvent, allEvents}
 use Rattle.model.specs.Printout.{Line, LabelLine, routeLines}
 use Rattle.model.specs.Sample.{kinds, operands, lines, routes, prints}
 use Rattle.script.specs.Script.{Script, script, eventCount, decoded, notSized, noRoom, parsing, reading}
-use Rattle.printout.specs.Text.{digitsOf, decimal, field, ended, eventText, labelText, rehearsalText}
+use Rattle.text.specs.Text.{digitsOf, decimal, field, ended, eventText, labelText, rehearsalText}
 use Rattle.printout.specs.Printed.{rehearsalOf, printoutRoom, rehearsing, textOf, programs, printed}
 
 -- The ASCII codes of a text.

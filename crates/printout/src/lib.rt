@@ -1,4 +1,2 @@
 // The rehearsal of a script, from its bytes to the printout's bytes (01, "Scripts and the printout").
-mod lines;
 pub mod rehearsal;
-mod text;

@@ -9,8 +9,8 @@ use Rattle.base.specs.Lists.{tabulate}
 use Rattle.model.specs.Memory.{Network}
 use Rattle.model.specs.Printout.{lineAt, eventLines}
 use Rattle.telling.specs.Tallies.{Told}
-use Rattle.printout.specs.Contracts.{PutsAt}
-use Rattle.printout.proofs.TextLaws.{puts-none, puts-append}
+use Rattle.text.specs.Contracts.{PutsAt}
+use Rattle.text.proofs.TextLaws.{puts-none, puts-append}
 use Rattle.printout.proofs.RehearsalLaws.{textFirst, text-more}
 use Rattle.printout.proofs.rehearsal.put_event_lines.Statement.{statement}
 use Rattle.printout.proofs.rehearsal.put_event_lines.Tie as tie

@@ -16,9 +16,9 @@ use Rattle.network.specs.View.{view}
 use Rattle.telling.specs.Tallies.{tallyIn, Told}
 use Rattle.steps.proofs.RunLaws.{ran-in-range}
 use Rattle.steps.proofs.ToldLaws.{told-lines}
-use Rattle.printout.specs.Text.{eventText, rehearsalText}
-use Rattle.printout.specs.Contracts.{PutsAt}
-use Rattle.printout.proofs.TextLaws.{puts-append, puts-length}
+use Rattle.text.specs.Text.{eventText, rehearsalText}
+use Rattle.text.specs.Contracts.{PutsAt}
+use Rattle.text.proofs.TextLaws.{puts-append, puts-length}
 use Rattle.printout.proofs.RehearsalLaws.{fresh-in-range, text-whole}
 use Rattle.printout.proofs.rehearsal.put_rehearsal.Statement.{statement}
 use Rattle.printout.proofs.rehearsal.put_rehearsal.Tie as tie

@@ -1,7 +1,7 @@
 -- `rehearsal::rehearse` meets its contracts: the text of the rehearsal under the limit 128, or the line of the refusal; demand 3, and F-5.
 use native.Mathlib.Omega.{arith}
 use borrow.Author.Needs.{needs}
-use Rattle.printout.proofs.TextLaws.{puts-counted}
+use Rattle.text.proofs.TextLaws.{puts-counted}
 use Rattle.printout.proofs.RehearsalLaws.{prints-accepted, prints-refused, counted, routes-loop-free, tally-fits}
 use Rattle.printout.proofs.rehearsal.rehearse.Statement.{statement}
 use Rattle.printout.proofs.rehearsal.rehearse.Tie as tie
