@@ -11,6 +11,7 @@ use Rattle.base.specs.Numbers.{maxU32}
 use Rattle.base.proofs.Booleans.{clash}
 use Rattle.fraction.specs.declared.Fraction.{Fraction}
 use Rattle.fraction.specs.Fraction.{_⊏_, Between, Simplest, simplest}
+use Rattle.fraction.proofs.Runs.{sums-between}
 use Rattle.fraction.proofs.Simplest.{simplest-is, between-proper}
 use Rattle.label.specs.declared.Label.{Label}
 use Rattle.label.specs.Label.{label, inRange, above, _≻_, _⪰_, Outcome, took, gave, fractionOf, fitting, next, Splitting, split, mediant, SplitRule, newLabelBy, newLabel, newLabelCall, MaintainsOrder, KeepsOrder}
@@ -226,12 +227,7 @@ split-between c v g h e = let rule = split-rule c v h in record { number = rule 
 
 mediant-between : SplitsBetween mediant
 unfolding mediant
-mediant-between c v g h e =
-    rw (fitting-took _ _ _ g e)
-    (record {
-      number = refl;
-      between = record { above = record { products = omega (arith, h .products) }; below = record { products = omega (arith, h .products) } };
-    })
+mediant-between c v g h e = rw (fitting-took _ _ _ g e) (record { number = refl; between = sums-between h })
 
 -- So New label maintains order by either rule.
 pub new-label-maintains : KeepsOrder split

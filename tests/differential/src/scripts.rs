@@ -75,37 +75,20 @@ const STRETCH: usize = 40;
 /// The most events that a station's move has: a link down for each successor, two up, and Solicit.
 const MOVE: usize = MAX_SUCCESSORS + 3;
 
+/// What a style has where it says nothing else.
+const PLAIN: Style = Style { name: "", weights: [1; 9], wild: 0, front: 50, late_errors: false, moves: false };
+
 pub const STYLES: [Style; 5] = [
-    Style { name: "packets in order", weights: [1, 1, 6, 2, 1, 60, 1, 1, 5], wild: 0, front: 95, late_errors: false, moves: false },
-    Style {
-        name: "packets late, twice or never",
-        weights: [1, 1, 5, 3, 2, 35, 8, 12, 4],
-        wild: 2,
-        front: 30,
-        late_errors: true,
-        moves: false,
-    },
-    Style { name: "links that come and go", weights: [9, 8, 6, 3, 3, 45, 2, 2, 5], wild: 2, front: 60, late_errors: true, moves: false },
-    Style {
-        name: "an air that is nearly full",
-        weights: [2, 1, 14, 12, 2, 22, 1, 30, 2],
-        wild: 1,
-        front: 50,
-        late_errors: false,
-        moves: false,
-    },
-    Style { name: "operands of any value", weights: [4, 2, 3, 2, 2, 8, 2, 2, 3], wild: 50, front: 50, late_errors: false, moves: false },
+    Style { name: "packets in order", weights: [1, 1, 6, 2, 1, 60, 1, 1, 5], front: 95, ..PLAIN },
+    Style { name: "packets late, twice or never", weights: [1, 1, 5, 3, 2, 35, 8, 12, 4], wild: 2, front: 30, late_errors: true, ..PLAIN },
+    Style { name: "links that come and go", weights: [9, 8, 6, 3, 3, 45, 2, 2, 5], wild: 2, front: 60, late_errors: true, ..PLAIN },
+    Style { name: "an air that is nearly full", weights: [2, 1, 14, 12, 2, 22, 1, 30, 2], wild: 1, ..PLAIN },
+    Style { name: "operands of any value", weights: [4, 2, 3, 2, 2, 8, 2, 2, 3], wild: 50, ..PLAIN },
 ];
 
 /// Labels are split again and again, between others than neighbours too.
-pub const MOVING: Style = Style {
-    name: "stations that move, and one that all seek",
-    weights: [1, 1, 6, 4, 4, 60, 2, 1, 3],
-    wild: 0,
-    front: 90,
-    late_errors: false,
-    moves: true,
-};
+pub const MOVING: Style =
+    Style { name: "stations that move, and one that all seek", weights: [1, 1, 6, 4, 4, 60, 2, 1, 3], front: 90, moves: true, ..PLAIN };
 
 /// Starts at the ends of 64 bits and between.
 pub fn some_start(random: &mut Random) -> u64 {
