@@ -2,4 +2,3 @@ pub mod Booleans
 pub mod Lists
 pub mod Loops
 pub mod Results
-pub mod Lending

@@ -1,1 +1,2 @@
 // Notation and laws that every crate shares: specs/ and proofs/ hold them, and there is no code.
+#![tactic(auto)]

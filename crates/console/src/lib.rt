@@ -1,5 +1,7 @@
 // The console: entry points for C on numbers and byte slices (include/srp.h, docs/LAYOUT.md). No function asks anything of its caller.
 // Results are two numbers in one: specs/Packed.antt.
+#![tactic(auto)]
+
 ghost use Rattle.std.specs.Prelude.{◌≡◌, false, ◌≤◌, ◌<◌, length};
 ghost use Rattle.base.specs.Results.{is_refusal};
 ghost use Rattle.telling.specs.Tallies.{tally_in};

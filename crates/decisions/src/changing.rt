@@ -30,7 +30,7 @@ pub fn class_of(kind: u8, carried: u8) -> u8
 }
 
 // A station, what it holds for a destination, and its record for a source.
-#[derive(Drop)]
+#[derive(Clone, Copy)]
 pub struct Spot {
     pub station: u8,
     pub destination: u8,
@@ -72,7 +72,7 @@ pub fn expired(kind: u8, count: u8) -> u8
 
 // What a call does at a station: what it holds then, its last request, whether the packet that the call names goes, its answer, and the
 // packet that it sends, with its scope.
-#[derive(Drop)]
+#[derive(Clone, Copy)]
 pub struct Change {
     pub holding: Holding,
     pub packet: Packet,

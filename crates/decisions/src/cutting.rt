@@ -13,7 +13,7 @@ use rows::{Loss, Row, loss_of, without_station};
 
 // Two stations, and the masks of the destinations for which the first loses the second, and the second the first: whatever the entry's
 // serial number, or where it is at most this.
-#[derive(Drop)]
+#[derive(Clone, Copy)]
 pub struct Cut {
     pub serial: u64,
     pub mask: u16,
@@ -83,7 +83,7 @@ pub fn cut_row(row: Row, cut: Cut, j: u8, mask: u16, t: u8) -> Row
 }
 
 // The masks of the rows emptied so far, of the first station and of the second, and whether any row lost an entry.
-#[derive(Drop)]
+#[derive(Clone, Copy)]
 pub struct Losses {
     pub emptied: u16,
     pub others: u16,

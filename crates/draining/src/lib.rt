@@ -1,4 +1,6 @@
 // Draining the air, as decisions on small values: when packet 0 is lost, what is done next, and when it is over.
+#![tactic(auto)]
+
 ghost use Rattle.std.specs.Prelude.{◌≡◌, ltb};
 ghost use Rattle.draining.specs.Draining.{loses_packet, AllDrain};
 ghost use Rattle.draining.specs.Following.{Follows};
@@ -7,7 +9,7 @@ ghost use Rattle.draining.specs.Following.{Follows};
 const FIRST: u8 = 0;
 
 // An event: its kind and its operands; and how many packets it loses because Deliver was turned down.
-#[derive(Drop)]
+#[derive(Clone, Copy)]
 pub struct Event {
     pub kind: u8,
     pub a: u8,

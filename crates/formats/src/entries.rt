@@ -212,7 +212,7 @@ pub fn put_record(out: &mut [u8], at: usize, kept: Record)
 }
 
 // What a station keeps of its own requests and sendings.
-#[derive(Drop)]
+#[derive(Clone, Copy)]
 pub struct Station {
     pub number: RequestNumber,
     pub sought: u8,

@@ -1,5 +1,7 @@
 // The entries of the memory in bytes (docs/LAYOUT.md, "The entries"): the widths of the fields of each entry, in the order of their bytes, and of the
 // entry (specs/Formats.antt).
+#![tactic(auto)]
+
 use rows::ROW_LIMIT;
 use validation::AIR_LIMIT;
 

@@ -1,9 +1,11 @@
 // Fractions, and the simplest one strictly between two others (02, F-6).
+#![tactic(auto)]
+
 ghost use Rattle.std.specs.Prelude.{◌≡◌, ◌≤◌};
 ghost use Rattle.fraction.specs.Fraction.{Searched, Simplest, simplest};
 
 // The fraction m/d.
-#[derive(Drop)]
+#[derive(Clone, Copy)]
 pub struct Fraction {
     pub m: u64,
     pub d: u64,

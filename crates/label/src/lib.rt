@@ -1,4 +1,6 @@
 // Labels: their range, their order and New label (01, "Labels").
+#![tactic(auto)]
+
 ghost use Rattle.std.specs.Prelude.{◌≡◌, true, ◌+◌, ◌*◌, ◌≤◌};
 ghost use Rattle.fraction.specs.Fraction.{◌⊏◌};
 ghost use Rattle.label.specs.Label.{label, is_unassigned, in_range, above, fraction_of, fitting, next, split, SplitRule, new_label, new_label_call, outcome};
@@ -6,11 +8,11 @@ ghost use Rattle.label.specs.Label.{label, is_unassigned, in_range, above, fract
 use fraction::{Fraction, simplest_between};
 
 // A destination's sequence number.
-#[derive(Drop)]
+#[derive(Clone, Copy)]
 pub struct SequenceNumber(pub u64);
 
 // The label (s, m/d).
-#[derive(Drop)]
+#[derive(Clone, Copy)]
 pub struct Label {
     pub s: SequenceNumber,
     pub m: u32,
@@ -18,7 +20,7 @@ pub struct Label {
 }
 
 // What New label answers.
-#[derive(Drop)]
+#[derive(Clone, Copy)]
 pub enum NewLabel {
     // The new label.
     Took(Label),

@@ -48,7 +48,7 @@ fn blank_record() -> Record {
 }
 
 // The tables of s, m and d.
-#[derive(Drop)]
+#[derive(Clone, Copy)]
 pub struct Labels {
     pub s: [u64; 256],
     pub m: [u32; 256],
@@ -115,7 +115,7 @@ fn read_links(bytes: &[u8]) -> [bool; 256]
 }
 
 // What the stations keep of their own requests and sendings.
-#[derive(Drop)]
+#[derive(Clone, Copy)]
 pub struct Stations {
     pub numbers: [RequestNumber; 16],
     pub sought: [u8; 16],

@@ -1,4 +1,6 @@
 // Links as one row of bits for each station (02, F-7): bit b of row a says that the link of a and b is up.
+#![tactic(auto)]
+
 ghost use Rattle.std.specs.Prelude.{◌≡◌, true, false, not, ◌||◌, ℕ, ◌<◌, ◌≤◌, length, get_or};
 ghost use Rattle.base.specs.Lists.{all_below};
 ghost use Rattle.model.specs.Calls.{bit};

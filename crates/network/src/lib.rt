@@ -1,4 +1,6 @@
 // The network's memory by value (01, "The network's memory"). specs/View.antt reads it as the model's network.
+#![tactic(auto)]
+
 use label::Label;
 use rows::Row;
 use validation::AIR_LIMIT;
@@ -11,12 +13,12 @@ pub mod places;
 pub mod range;
 
 // A source's request number.
-#[derive(Drop)]
+#[derive(Clone, Copy)]
 pub struct RequestNumber(pub u32);
 
 // What a station keeps of a source's last request: its label as C, its number and destination, the last hop, and whether a reply
 // was passed on.
-#[derive(Drop)]
+#[derive(Clone, Copy)]
 pub struct Record {
     pub cached: Label,
     pub number: RequestNumber,
@@ -26,7 +28,7 @@ pub struct Record {
 }
 
 // A packet, with the serial number of its sending. Kind 1 is a request, 2 a reply (no mask and no reset bit), 3 an error (the mask alone).
-#[derive(Drop)]
+#[derive(Clone, Copy)]
 pub struct Packet {
     pub label: Label,
     pub serial: u64,
@@ -41,7 +43,7 @@ pub struct Packet {
 }
 
 // The packets in the air, in the order they were sent.
-#[derive(Drop)]
+#[derive(Clone, Copy)]
 pub struct Air {
     pub packets: [Packet; AIR_LIMIT as usize],
     pub count: u8,
@@ -49,7 +51,7 @@ pub struct Air {
 
 // The memory. What station i holds for station t stands at 16·i + t, and the link of two stations where the lower one holds the other. A
 // station's sendings are numbered; serials[i] is the number of its last. At most `limit` packets are in the air after a call.
-#[derive(Drop)]
+#[derive(Clone, Copy)]
 pub struct Memory {
     pub s: [u64; 256],
     pub m: [u32; 256],

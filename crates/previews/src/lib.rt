@@ -1,4 +1,6 @@
 // A preview of a packet (02, F-1): what Deliver would give, by the decisions of Deliver on the values that it gathers. Nothing is written.
+#![tactic(auto)]
+
 ghost use Rattle.std.specs.Prelude.{◌≡◌, ◌+◌, ◌^◌, ◌<◌};
 ghost use Rattle.model.specs.Preview.{shows, number_shown, preview};
 ghost use Rattle.rows.specs.View.{row_of};
@@ -20,7 +22,7 @@ use validation::AIR_LIMIT;
 
 // What a delivery would give: its answer, how many packets it sends, the label and row that the receiver then has for the packet's
 // destination; of an error instead the mask of the rows that it empties.
-#[derive(Drop)]
+#[derive(Clone, Copy)]
 pub struct Preview {
     pub label: Label,
     pub row: Row,
@@ -31,7 +33,7 @@ pub struct Preview {
 
 // What a preview reads of a network: packet k, what its receiver holds for it, the receiver's last serial number, its last request and its
 // rows, the links, how many stations and packets there are, and the air limit.
-#[derive(Drop)]
+#[derive(Clone, Copy)]
 pub struct Gathered {
     pub rows: [Row; 16],
     pub held: Holding,

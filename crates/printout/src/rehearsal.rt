@@ -52,7 +52,7 @@ fn put_event_lines(out: &mut [u8], kinds: &[u8], operands: &[u8], lines: &[u64])
 }
 
 // What a rehearsal gives: the length of its text, its answer, and the tally of its events.
-#[derive(Drop)]
+#[derive(Clone, Copy)]
 pub struct Rehearsed {
     pub length: usize,
     pub answer: u32,

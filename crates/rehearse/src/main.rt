@@ -1,4 +1,6 @@
 // The rehearsal program: a script on standard input, its printout on standard output (01, "Scripts and the printout").
+#![tactic(auto)]
+
 use libc::{STDERR_FILENO, STDIN_FILENO, STDOUT_FILENO};
 use printout::rehearsal::{INPUT_ROOM, ROOM, rehearse_input};
 

@@ -1,4 +1,6 @@
 // Rows of successors (01, "The network's memory"): the search for a station, the row of an accepted reply, and the row that a station leaves.
+#![tactic(auto)]
+
 ghost use Rattle.std.specs.Prelude.{◌≡◌, [], ◌∷◌, ◌++◌, ◌<◌, ◌≤◌};
 ghost use Rattle.base.specs.Lists.{some_in, tabulate, index_of, remove_at};
 ghost use Rattle.model.specs.Memory.{names, without, under, put, with_room, row_limit};
@@ -13,7 +15,7 @@ use label::{Label, label_of};
 pub const ROW_LIMIT: u8 = 4;
 
 // A successor: a station, the label that it advertised, and the serial number of its reply.
-#[derive(Drop)]
+#[derive(Clone, Copy)]
 pub struct Successor {
     pub label: Label,
     pub serial: u64,
@@ -21,7 +23,7 @@ pub struct Successor {
 }
 
 // A row of successors: entry k is the station stations[k] with the label labels[k] and the serial number serials[k].
-#[derive(Drop)]
+#[derive(Clone, Copy)]
 pub struct Row {
     pub labels: [Label; ROW_LIMIT as usize],
     pub serials: [u64; ROW_LIMIT as usize],
@@ -77,7 +79,7 @@ pub fn with_entry(row: Row, k: usize, e: Successor) -> Row
 
 // How a search ended: the place of the first entry that names the station, or the number of entries where none does; and how many places
 // it looked at.
-#[derive(Drop)]
+#[derive(Clone, Copy)]
 pub struct Found {
     pub place: u8,
     pub looked: u8,
@@ -188,7 +190,7 @@ pub fn adopted(row: Row, g: Label, e: Successor) -> Row
 }
 
 // What a row loses: whether an entry leaves it, and whether this empties it.
-#[derive(Drop)]
+#[derive(Clone, Copy)]
 pub struct Loss {
     pub removed: bool,
     pub emptied: bool,

@@ -35,7 +35,7 @@ pub fn event(memory: Memory, kind: u8, a: u8, b: u8) -> Happened
 }
 
 // What a run of events gives: the memory after it, its answer, and the tally of its events.
-#[derive(Drop)]
+#[derive(Clone, Copy)]
 pub struct Tallied {
     pub memory: Memory,
     pub answer: u32,

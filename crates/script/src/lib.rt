@@ -1,4 +1,6 @@
 // Scripts in bytes: reading one into lent arrays, and writing one (01, "Scripts and the printout").
+#![tactic(auto)]
+
 ghost use Rattle.std.specs.Prelude.{◌≡◌, ◌+◌, ◌*◌, ◌≤◌, length, take};
 ghost use Rattle.std.proofs.lemmas.List.Edits.{sets};
 ghost use Rattle.base.specs.Results.{accepted};
@@ -11,7 +13,7 @@ use codec::{number_at, put_bytes, put_number};
 use validation::{EVENT_LIMIT, all_events, not_events, open_refused};
 
 // What reading gives: the start, the number of events and n; or the number of the refusal, and zeros.
-#[derive(Drop)]
+#[derive(Clone, Copy)]
 pub struct Found {
     pub start: u64,
     pub events: usize,
@@ -20,7 +22,7 @@ pub struct Found {
 }
 
 // What writing gives: how many bytes it wrote; or the number of the refusal, and 0.
-#[derive(Drop)]
+#[derive(Clone, Copy)]
 pub struct Written {
     pub bytes: usize,
     pub answer: u32,

@@ -1,4 +1,6 @@
 // What the receiver of a request or a reply does (01, "Request R from j", "Reply V from j"), on small values.
+#![tactic(auto)]
+
 use label::Label;
 use network::{Packet, Record};
 use rows::Row;
@@ -11,7 +13,7 @@ pub mod sending;
 
 // What a packet may change of its receiver: the label and row for the packet's destination, the record for its source, and whether
 // the station is active.
-#[derive(Drop)]
+#[derive(Clone, Copy)]
 pub struct Holding {
     pub label: Label,
     pub row: Row,
@@ -21,7 +23,7 @@ pub struct Holding {
 
 // What a station does with a packet: what it holds afterwards, its answer, and the packet that it sends, not numbered, to nobody (scope 0),
 // to the packet's receiver (1), or a copy to each of its up neighbours (2).
-#[derive(Drop)]
+#[derive(Clone, Copy)]
 pub struct Reaction {
     pub holding: Holding,
     pub packet: Packet,

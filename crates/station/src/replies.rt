@@ -58,7 +58,7 @@ fn cached(p: Packet, held: Holding) -> Label
 }
 
 // What i holds after New label's outcome, and its answer.
-#[derive(Drop)]
+#[derive(Clone, Copy)]
 pub struct Settled {
     pub holding: Holding,
     pub answer: u32,

@@ -1,4 +1,6 @@
 // The calls (01, "What each call does") on memory in range, in place: a run of events.
+#![tactic(auto)]
+
 use network::Memory;
 
 pub mod drain;
@@ -9,7 +11,7 @@ pub mod source;
 
 // What a call gives: the memory after it, its answer (the number of a refusal or of an outcome, 0 if it has neither), and how many
 // packets it sent.
-#[derive(Drop)]
+#[derive(Clone, Copy)]
 pub struct Done {
     pub memory: Memory,
     pub answer: u32,
@@ -17,7 +19,7 @@ pub struct Done {
 }
 
 // What an event gives: the memory after it, its answer, how many packets it sent, and the hops of a Trace.
-#[derive(Drop)]
+#[derive(Clone, Copy)]
 pub struct Happened {
     pub memory: Memory,
     pub answer: u32,
@@ -26,7 +28,7 @@ pub struct Happened {
 }
 
 // What a run of events gives: the memory after it; how many events it made, and how many packets it lost where it drained the air.
-#[derive(Drop)]
+#[derive(Clone, Copy)]
 pub struct Run {
     pub memory: Memory,
     pub events: usize,
@@ -34,7 +36,7 @@ pub struct Run {
 }
 
 // What draining the air gives: the memory after it, its answer, and the packets delivered and lost.
-#[derive(Drop)]
+#[derive(Clone, Copy)]
 pub struct Drained {
     pub memory: Memory,
     pub answer: u32,
@@ -43,7 +45,7 @@ pub struct Drained {
 }
 
 // What Trace gives: its answer and its hops.
-#[derive(Drop)]
+#[derive(Clone, Copy)]
 pub struct Traced {
     pub answer: u32,
     pub hops: u8,

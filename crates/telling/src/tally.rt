@@ -9,7 +9,7 @@ ghost use Rattle.telling.specs.Tallies.{tally_in, with_event, Told};
 use crate::lines::air_of;
 
 // How many events there were, refused ones too, and the highest air count after any of them.
-#[derive(Drop)]
+#[derive(Clone, Copy)]
 pub struct Tally {
     pub calls: u32,
     pub highest: u8,

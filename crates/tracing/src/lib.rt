@@ -1,4 +1,6 @@
 // The tracer's walk, hop by hop (01, "Trace").
+#![tactic(auto)]
+
 ghost use Rattle.std.specs.Prelude.{◌≡◌, ◌+◌, ◌<◌, ◌≤◌, get_or};
 ghost use Rattle.model.specs.Memory.{Network, row_at};
 ghost use Rattle.model.specs.Calls.{next_of, hop_limit};
@@ -8,7 +10,7 @@ ghost use Rattle.tracing.specs.Tracing.{GoesOn, tells};
 use rows::Row;
 
 // The walk so far: the station it is at, its hops, and its answer, 0 while it goes on.
-#[derive(Drop)]
+#[derive(Clone, Copy)]
 pub struct Walk {
     pub answer: u32,
     pub at: u8,

@@ -1,4 +1,6 @@
 // Tests of what a caller hands in that need no memory: n, start and the air limit, stations, the number of events, and what is an event.
+#![tactic(auto)]
+
 ghost use Rattle.std.specs.Prelude.{◌≡◌, ◌||◌, ◌*◌, ◌≤◌, min, length, leb, eqb};
 ghost use Rattle.model.specs.Memory.{size_in_range};
 ghost use Rattle.base.specs.Choice.{if◌then◌else◌};

@@ -35,16 +35,16 @@ right-at t = and 0 right-kinds.ps (is 0 right-kinds.ps μ-right t) right.Pre
 abbrev right-below : ℕ → In 0 right-kinds.ps
 right-below t = and 0 right-kinds.ps (falls 0 right-kinds.ps ◌<◌ μ-right t) right.Pre
 
-left-div-k : (t : ℕ) → left-lts.Need-nonzero-div-k (right-below t, right.Post) (left_at t) left.Post
+left-div-k : (t : ℕ) → left-lts.Need-nonzero_div-k (right-below t, right.Post) (left_at t) left.Post
 left-div-k t c = divides c.before.requires.1.0.ordered
 
-left-mul-q : (t : ℕ) → left-lts.Need-overflow-mul-q (right-below t, right.Post) (left_at t) left.Post
+left-mul-q : (t : ℕ) → left-lts.Need-overflow_mul-q (right-below t, right.Post) (left_at t) left.Post
 left-mul-q t c = omega (arith, room c.before.requires.1.0.ordered)
 
-left-sub-q : (t : ℕ) → left-lts.Need-overflow-sub-q (right-below t, right.Post) (left_at t) left.Post
+left-sub-q : (t : ℕ) → left-lts.Need-overflow_sub-q (right-below t, right.Post) (left_at t) left.Post
 left-sub-q t c = omega (arith, room c.before.before.requires.1.0.ordered)
 
-left-rem-d : (t : ℕ) → left-lts.Need-nonzero-rem-d (right-below t, right.Post) (left_at t) left.Post
+left-rem-d : (t : ℕ) → left-lts.Need-nonzero_rem-d (right-below t, right.Post) (left_at t) left.Post
 left-rem-d t c =
     let past = c.before.before.before in
     divides past.requires.1.0.ordered
@@ -81,16 +81,16 @@ left-returns-2 t c =
     let past = c.before.before.before.before.before.before.before in
     simplest-back past.requires.1.0.ordered c.before.before.right.ensures
 
-right-div-k : (t : ℕ) → right-lts.Need-nonzero-div-k (left_below t, left.Post) (right-at t) right.Post
+right-div-k : (t : ℕ) → right-lts.Need-nonzero_div-k (left_below t, left.Post) (right-at t) right.Post
 right-div-k t c = divides (reciprocal-smaller c.before.requires.1.ordered)
 
-right-mul-m : (t : ℕ) → right-lts.Need-overflow-mul-m (left_below t, left.Post) (right-at t) right.Post
+right-mul-m : (t : ℕ) → right-lts.Need-overflow_mul-m (left_below t, left.Post) (right-at t) right.Post
 right-mul-m t c = omega (arith, room (reciprocal-smaller c.before.requires.1.ordered))
 
-right-sub-m : (t : ℕ) → right-lts.Need-overflow-sub-m (left_below t, left.Post) (right-at t) right.Post
+right-sub-m : (t : ℕ) → right-lts.Need-overflow_sub-m (left_below t, left.Post) (right-at t) right.Post
 right-sub-m t c = omega (arith, room (reciprocal-smaller c.before.before.requires.1.ordered))
 
-right-rem-p : (t : ℕ) → right-lts.Need-nonzero-rem-p (left_below t, left.Post) (right-at t) right.Post
+right-rem-p : (t : ℕ) → right-lts.Need-nonzero_rem-p (left_below t, left.Post) (right-at t) right.Post
 right-rem-p t c =
     let past = c.before.before.before in
     divides (reciprocal-smaller past.requires.1.ordered)
