@@ -1,0 +1,19 @@
+-- `get_fields` meets its contract: the first i values are read, and the others stand from the place on.
+use Prim.Native.Nat.{◌+◌, ◌-◌, ◌≤◌}
+use mathlib.Core.Path.{◌≡◌, sym, subst, ◌∙◌}
+use mathlib.Core.List.{◌++◌}
+use lib.ListN.{length, take, drop, length-set}
+use native.Mathlib.Numerals.{add-one}
+use Rattle.codec.proofs.ByteLaws.{all-bytes}
+use Rattle.codec.specs.Fields.{total, values_at, AllFit}
+use Rattle.codec.proofs.FieldLaws.{width-at, total-more, got-more, got-all, read_fits}
+use native.Mathlib.Omega.{arith}
+use borrow.Author.Rules.{rules}
+use Rattle.codec.proofs.get_fields.Given as goal
+
+abbrev pub invariant-loop-i : goal.invariant-loop-i
+invariant-loop-i l = (length l.values ≡ length l.widths) × (l.i ≤ length l.widths) × (l.place + total (drop l.i l.widths) ≡ l.at + total l.widths)
+    × (take l.i l.values ++ values_at (drop l.i l.widths) l.bytes l.place ≡ values_at l.widths l.bytes l.at)
+
+abbrev pub decreases-loop-i : goal.decreases-loop-i
+decreases-loop-i l = length l.widths - l.i
