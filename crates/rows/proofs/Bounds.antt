@@ -24,9 +24,9 @@ pub record RowLengths (r : Row) : Type 0 where
 
 pub row-lengths : (r : Row) → ValidRow r → RowLengths r
 row-lengths r valid = record {
-  labels_length = unmapped _ r.labels row_limit valid.1.1.0.1.0.1;
-  serials-length = unmapped _ r.serials row_limit valid.1.1.1.0.1.0.1;
-  stations-length = unmapped _ r.stations row_limit valid.1.1.1.1.0.1.0.1;
+  labels_length = valid.1.1.0.1.0.1;
+  serials-length = valid.1.1.1.0.1.0.1;
+  stations-length = valid.1.1.1.1.0.1.0.1;
 }
 
 -- Past its arrays a row has zeros.

@@ -1,0 +1,30 @@
+-- `remove_at` meets its contract: at place k the entries after the place have moved up as far as k.
+use Prim.Native.Nat.{◌-◌, ◌≤◌}
+use mathlib.Core.Path.{◌≡◌, refl, ap, ◌∙◌}
+use native.Mathlib.Omega.{arith}
+use borrow.Author.Rules.{rules}
+use Rattle.base.specs.Lists.{tabulate}
+use Rattle.rows.specs.View.{successor_of, entry_of, row_of}
+use Rattle.rows.proofs.RowLaws.{MovedUp, moved_none, moved_more, moved_all}
+use Rattle.rows.proofs.remove_at.Goals as goal
+
+pub loop-k-init : goal.loop-k-init
+loop-k-init c = (omega arith, omega arith, refl, moved_none _ _)
+
+pub loop-k-preserved : goal.loop-k-preserved
+loop-k-preserved c =
+    let loop = c.loop-k in
+    let e = successor_of c.entry-e.result in (
+      omega arith,
+      omega arith,
+      c.with_entry-row.ensures.count_same ∙ loop.invariant.2,
+      moved_more _ _ loop.k loop.row c.with_entry-row.result e loop.invariant.3 loop.invariant.0 c.entry-e.ensures c.with_entry-row.ensures,
+    )
+
+pub returns : goal.returns
+unfolding row_of entry_of
+returns c =
+    let loop = c.loop-k in
+    let all : loop.row.count ≡ loop.k = omega arith in
+    ap (λ k. tabulate k (entry_of loop.row)) all
+    ∙ moved_all c.args.place (entry_of c.args.row) loop.k c.args.row.count (entry_of loop.row) loop.invariant.3 loop.invariant.0 (omega arith)

@@ -1,0 +1,15 @@
+-- `remove_at` meets its contract: at place k the entries after the place have moved up as far as k.
+use Prim.Native.Nat.{◌-◌, ◌≤◌}
+use mathlib.Core.Path.{◌≡◌, refl, ap, ◌∙◌}
+use native.Mathlib.Omega.{arith}
+use borrow.Author.Rules.{rules}
+use Rattle.base.specs.Lists.{tabulate}
+use Rattle.rows.specs.View.{successor_of, entry_of, row_of}
+use Rattle.rows.proofs.RowLaws.{MovedUp, moved_none, moved_more, moved_all}
+use Rattle.rows.proofs.remove_at.Given as goal
+
+abbrev pub invariant-loop-k : goal.invariant-loop-k
+invariant-loop-k l = (l.place ≤ l.k) × (l.k ≤ l.last) × (l.row.count ≡ l.count) × MovedUp l.place l.k (entry_of l.initial.row) (entry_of l.row)
+
+abbrev pub decreases-loop-k : goal.decreases-loop-k
+decreases-loop-k l = l.last - l.k
