@@ -17,10 +17,10 @@ unfoldable pub mapped : {A B : Type 0} → (A → B) → Result A → Result B
 mapped f (refused number) = refused number
 mapped f (accepted x) = accepted (f x)
 
-infix 10 ◌andThen◌
-unfoldable pub ◌andThen◌ : {A B : Type 0} → Result A → (A → Result B) → Result B
-◌andThen◌ (refused number) f = refused number
-◌andThen◌ (accepted x) f = f x
+infix 10 ◌and_then◌
+unfoldable pub ◌and_then◌ : {A B : Type 0} → Result A → (A → Result B) → Result B
+◌and_then◌ (refused number) f = refused number
+◌and_then◌ (accepted x) f = f x
 
 -- The answers that are refusals: those below 100. An accepted call that has no outcome number answers 0.
 unfoldable pub is_refusal : ℕ → Bool

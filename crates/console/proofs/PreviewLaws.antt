@@ -7,7 +7,7 @@ use lib.ListN.{length, length-append}
 use lib.Seq.{sets}
 use native.Mathlib.Omega.{arith}
 use borrow.Author.Tests.{lt-ltb, le-ltb}
-use Rattle.base.specs.Results.{refused, accepted, mapped, ◌andThen◌, is_refusal}
+use Rattle.base.specs.Results.{refused, accepted, mapped, ◌and_then◌, is_refusal}
 use Rattle.base.proofs.Results.{refuse-holds, refuse-passes}
 use Rattle.codec.specs.Bytes.{little_endian, put_into}
 use Rattle.codec.proofs.ByteLaws.{sets_over, little-length}
@@ -37,11 +37,11 @@ module _ (bytes : List ℕ) (k : ℕ) (out : List ℕ) where
   -- This is what the preview shows. It tests the range itself.
   module _ {v : Preview} (is : v ≡ preview (stored_network bytes) k) where
     pub preview-refused : is_refusal v.answer ≡ true → Previews bytes k out (packed v.answer 0) out
-    unfolding previewing_in ◌andThen◌
+    unfolding previewing_in ◌and_then◌
     preview-refused r = ends-refused v.answer (rw ((preview-tells (stored_network bytes) k).0 (ap (λ (x : Preview). is_refusal x.answer) (sym is) ∙ r), is))
 
     shown : is_refusal v.answer ≡ false → previewing_in bytes k (length out) ≡ room_for (length out) v
-    unfolding previewing_in ◌andThen◌
+    unfolding previewing_in ◌and_then◌
     shown r = rw ((preview-tells (stored_network bytes) k).1 (ap (λ (x : Preview). is_refusal x.answer) (sym is) ∙ r), is)
 
     wide : length (bytes_of v) ≡ preview_wide

@@ -4,7 +4,7 @@ use mathlib.Core.Path.{◌≡◌, refl, ap, ◌∙◌}
 use mathlib.Core.List.{List}
 use lib.ListN.{length}
 use native.Mathlib.Omega.{arith}
-use Rattle.base.specs.Results.{Result, refused, accepted, ◌andThen◌}
+use Rattle.base.specs.Results.{Result, refused, accepted, ◌and_then◌}
 use Rattle.base.proofs.Results.{Satisfies, refuses, accepts, satisfies-refuse}
 use Rattle.telling.specs.Tallies.{tally_in}
 use Rattle.script.specs.Script.{parsing, reading}
@@ -18,7 +18,7 @@ abbrev Few : {A : Type 0} → Result A → Type 0
 Few z = Satisfies (λ number. number < 65_536) (λ x. Unit {0}) z
 
 few-then : {A B : Type 0} (z : Result A) (f : A → Result B) → Few z → ((x : A) → Few (f x)) → Few (z and_then f)
-unfolding ◌andThen◌
+unfolding ◌and_then◌
 few-then (refused number) f (refuses h) k = refuses h
 few-then (accepted x) f h k = k x
 

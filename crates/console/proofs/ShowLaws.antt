@@ -6,7 +6,7 @@ use mathlib.Core.List.{List}
 use lib.ListN.{length}
 use lib.Seq.{sets}
 use borrow.Author.Tests.{lt-ltb, le-ltb, not-false}
-use Rattle.base.specs.Results.{Result, refused, accepted, ◌andThen◌}
+use Rattle.base.specs.Results.{Result, refused, accepted, ◌and_then◌}
 use Rattle.base.proofs.Results.{refuse-holds, refuse-passes}
 use Rattle.codec.specs.Bytes.{Puts}
 use Rattle.codec.proofs.ByteLaws.{puts-refused, puts-accepted}
@@ -59,20 +59,20 @@ module _ (bytes : List ℕ) (show : Network → Result (List ℕ)) (out : List �
   shown-in = showing bytes show and_then shown_in (length out)
 
   pub puts-1 : out_of_range bytes ≡ true → Puts telling shown-in out 1 out
-  unfolding telling ◌andThen◌
+  unfolding telling ◌and_then◌
   puts-1 h = puts-refused telling _ out 1 1 (rw (showing-1 bytes show h)) refl
 
   pub puts-other : (number : ℕ) → out_of_range bytes ≡ false → show (stored_network bytes) ≡ refused number → Puts telling shown-in out (packed number 0) out
-  unfolding telling ◌andThen◌
+  unfolding telling ◌and_then◌
   puts-other number h e = puts-refused telling _ out (packed number 0) number (rw (showing-net bytes show h, e)) refl
 
   module _ (shown : List ℕ) (h : out_of_range bytes ≡ false) (e : show (stored_network bytes) ≡ accepted shown) where
     pub puts-12 : length out < length shown → Puts telling shown-in out 12 out
-    unfolding telling ◌andThen◌ shown_in
+    unfolding telling ◌and_then◌ shown_in
     puts-12 l = puts-refused telling _ out 12 12 (rw (showing-net bytes show h, e) (refuse-holds 12 _ _ (lt-ltb (length out) (length shown) l))) refl
 
     pub puts-shown : (r : ℕ) (out' : List ℕ) → length shown ≤ length out → r ≡ packed 0 (length shown) → out' ≡ sets out 0 shown
         → Puts telling shown-in out r out'
-    unfolding telling ◌andThen◌ shown_in
+    unfolding telling ◌and_then◌ shown_in
     puts-shown r out' l q p =
         puts-accepted telling _ out r shown out' (rw (showing-net bytes show h, e) (refuse-passes 12 _ _ (le-ltb (length out) (length shown) l))) q l p

@@ -1,6 +1,6 @@
 -- A preview at the console (02, F-1).
 use Rattle.std.specs.Prelude.{ℕ, ◌+◌, ◌≡◌, List, ◌++◌, length}
-use Rattle.base.specs.Results.{Result, refused, accepted, mapped, ◌andThen◌}
+use Rattle.base.specs.Results.{Result, refused, accepted, mapped, ◌and_then◌}
 use Rattle.codec.specs.Bytes.{little_endian, put_into}
 use Rattle.label.specs.declared.Label.{Label}
 use Rattle.model.specs.Memory.{Row}

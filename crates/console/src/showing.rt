@@ -2,7 +2,7 @@
 ghost use Rattle.std.specs.Prelude.{◌≡◌, ◌≤◌, ◌<◌, length};
 ghost use Rattle.std.proofs.lemmas.List.Edits.{sets};
 ghost use Rattle.base.specs.Choice.{if◌then◌else◌};
-ghost use Rattle.base.specs.Results.{◌andThen◌};
+ghost use Rattle.base.specs.Results.{◌and_then◌};
 ghost use Rattle.codec.specs.Bytes.{byte_at, Puts};
 ghost use Rattle.model.specs.Memory.{air_limit};
 ghost use Rattle.layout.specs.Places.{layout_length, size_at, air_at};

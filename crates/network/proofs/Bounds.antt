@@ -67,20 +67,20 @@ pub array-length : (l : List Packet) → ValidPackets l → length l ≡ air_lim
 array-length l valid = valid.1.0.1
 
 pub packets-length : (a : Air) → ValidAir a → length a.packets ≡ air_limit
-packets-length a valid = unmapped _ a.packets air_limit valid.1.1.0.1.0.1
+packets-length a valid = valid.1.1.0.1.0.1
 
 pub memory-lengths : (m : Memory) → ValidMemory m → Lengths m
 memory-lengths m valid = record {
-  s-length = unmapped _ m.s 256 valid.1.1.0.1.0.1;
-  m-length = unmapped _ m.m 256 valid.1.1.1.0.1.0.1;
-  d-length = unmapped _ m.d 256 valid.1.1.1.1.0.1.0.1;
-  serials-length = unmapped _ m.serials 16 valid.1.1.1.1.1.0.1.0.1;
-  rows-length = unmapped _ m.rows 256 valid.1.1.1.1.1.1.0.1.0.1;
-  records-length = unmapped _ m.records 256 valid.1.1.1.1.1.1.1.0.1.0.1;
-  numbers-length = unmapped _ m.numbers 16 valid.1.1.1.1.1.1.1.1.0.1.0.1;
-  sought-length = unmapped _ m.sought 16 valid.1.1.1.1.1.1.1.1.1.0.1.0.1;
-  active-length = unmapped _ m.active 16 valid.1.1.1.1.1.1.1.1.1.1.0.1.0.1;
-  air-length = unmapped _ m.air.packets air_limit valid.1.1.1.1.1.1.1.1.1.1.1.1.0.1.1.0.1.0.1;
+  s-length = valid.1.1.0.1.0.1;
+  m-length = valid.1.1.1.0.1.0.1;
+  d-length = valid.1.1.1.1.0.1.0.1;
+  serials-length = valid.1.1.1.1.1.0.1.0.1;
+  rows-length = valid.1.1.1.1.1.1.0.1.0.1;
+  records-length = valid.1.1.1.1.1.1.1.0.1.0.1;
+  numbers-length = valid.1.1.1.1.1.1.1.1.0.1.0.1;
+  sought-length = valid.1.1.1.1.1.1.1.1.1.0.1.0.1;
+  active-length = valid.1.1.1.1.1.1.1.1.1.1.0.1.0.1;
+  air-length = valid.1.1.1.1.1.1.1.1.1.1.1.1.0.1.1.0.1.0.1;
 }
 
 -- So the model's tables have their sizes.

@@ -10,7 +10,7 @@ use lib.Dec.{ltb, leb}
 use native.Mathlib.Omega.{arith}
 use borrow.Author.Tests.{lt-ltb, le-ltb, leb-true, leb-false}
 use Rattle.base.specs.Lists.{tabulate}
-use Rattle.base.specs.Results.{Result, refused, accepted, mapped, refuse◌when◌otherwise◌, ◌andThen◌}
+use Rattle.base.specs.Results.{Result, refused, accepted, mapped, refuse◌when◌otherwise◌, ◌and_then◌}
 use Rattle.base.proofs.Lists.{flat-one}
 use Rattle.base.proofs.Loops.{tabulate-more}
 use Rattle.base.proofs.Results.{refuse-holds, refuse-passes, Satisfies, refuses, accepts, satisfies-refuse}
@@ -149,7 +149,7 @@ module _ (bytes : List ℕ) (limit room : ℕ) where
 
   -- No number that turns it down is 0.
   pub rehearsing-ends : Satisfies Positive (λ v. Unit {0}) (rehearsing bytes limit room)
-  unfolding rehearsing ◌andThen◌
+  unfolding rehearsing ◌and_then◌
   rehearsing-ends = go (reading bytes event_limit (2 * event_limit)) (reading-ends bytes event_limit (2 * event_limit))
     where
       go : (z : Result Script) → Satisfies Positive (Parsed bytes) z → Satisfies Positive (λ v. Unit {0}) (z and_then rest)
@@ -157,12 +157,12 @@ module _ (bytes : List ℕ) (limit room : ℕ) where
       go (accepted s) (accepts h) = satisfies-refuse 14 _ _ (omega arith) (λ e. satisfies-refuse 12 _ _ (omega arith) (λ q. accepts tt))
 
   pub rehearsing-unread : (number : ℕ) → reading bytes event_limit (2 * event_limit) ≡ refused number → rehearsing bytes limit room ≡ refused number
-  unfolding rehearsing ◌andThen◌
+  unfolding rehearsing ◌and_then◌
   rehearsing-unread number e = rw e
 
   module _ (s : Script) (read : reading bytes event_limit (2 * event_limit) ≡ accepted s) where
     rehearsing-rest : rehearsing bytes limit room ≡ rest s
-    unfolding rehearsing ◌andThen◌
+    unfolding rehearsing ◌and_then◌
     rehearsing-rest = rw read
 
     pub rehearsing-14 : not_limit limit ≡ true → rehearsing bytes limit room ≡ refused 14

@@ -1,6 +1,6 @@
 -- What a rehearsal gives of a script's bytes, and what the program prints.
 use Rattle.std.specs.Prelude.{ℕ, ◌*◌, ◌<◌, ◌≡◌, ◌≢◌, false, List, [], length, ltb}
-use Rattle.base.specs.Results.{Result, refused, accepted, mapped, refuse◌when◌otherwise◌, ◌andThen◌}
+use Rattle.base.specs.Results.{Result, refused, accepted, mapped, refuse◌when◌otherwise◌, ◌and_then◌}
 use Rattle.model.specs.Memory.{fresh, air_limit}
 use Rattle.model.specs.Calls.{not_limit, trace}
 use Rattle.model.specs.Walks.{WalksEnd}

@@ -9,7 +9,7 @@ use lib.Seq.{sets, length-take-le, take_all}
 use lib.Dec.{ltb, eqb}
 use native.Mathlib.Omega.{arith}
 use borrow.Author.Tests.{le-ltb, ltb-false, eqb-true, not-false}
-use Rattle.base.specs.Results.{Result, refused, accepted, refuse◌when◌otherwise◌, mapped, ◌andThen◌}
+use Rattle.base.specs.Results.{Result, refused, accepted, refuse◌when◌otherwise◌, mapped, ◌and_then◌}
 use Rattle.base.proofs.Booleans.{neither}
 use Rattle.base.proofs.Results.{refuse-holds, refuse-passes, Satisfies, refuses, accepts, satisfies-refuse, satisfies-accepted}
 use Rattle.codec.specs.Bytes.{little_endian, number, over, put_into, Puts}
@@ -115,11 +115,11 @@ module _ (bytes : List ℕ) where
     placed s = refuse 12 when no_room (length s.kinds) kinds operands otherwise accepted s
 
     pub reading-refused : (number : ℕ) → parsing bytes ≡ refused number → reading bytes kinds operands ≡ refused number
-    unfolding reading ◌andThen◌
+    unfolding reading ◌and_then◌
     reading-refused number h = rw h
 
     reading-placed : Tested bytes → reading bytes kinds operands ≡ placed (decoded bytes)
-    unfolding reading ◌andThen◌
+    unfolding reading ◌and_then◌
     reading-placed t = rw (parsing-accepted t)
 
     pub reading-12 : Tested bytes → no_room (length (decoded bytes).kinds) kinds operands ≡ true → reading bytes kinds operands ≡ refused 12
@@ -129,7 +129,7 @@ module _ (bytes : List ℕ) where
     reading-accepted t h = reading-placed t ∙ refuse-passes 12 _ _ h
 
     pub reading-ends : Satisfies Positive Parsed (reading bytes kinds operands)
-    unfolding reading ◌andThen◌
+    unfolding reading ◌and_then◌
     reading-ends = go (parsing bytes) parsing-ends
       where
         go : (z : Result Script) → Satisfies Positive Parsed z → Satisfies Positive Parsed (z and_then placed)
@@ -141,7 +141,7 @@ module _ (bytes : List ℕ) where
 
   -- With room for every script 12 is never given.
   pub reading-whole : reading bytes event_limit (2 * event_limit) ≡ parsing bytes
-  unfolding reading ◌andThen◌
+  unfolding reading ◌and_then◌
   reading-whole = go (parsing bytes) parsing-ends
     where
       go : (z : Result Script) → Satisfies Positive Parsed z → z and_then placed event_limit (2 * event_limit) ≡ z

@@ -1,6 +1,6 @@
 -- Scripts in bytes (01, "Scripts and the printout"; refusals 9 to 12).
 use Rattle.std.specs.Prelude.{ℕ, ◌+◌, ◌*◌, Bool, not, ◌||◌, List, ◌++◌, length, take, drop, ltb, eqb}
-use Rattle.base.specs.Results.{Result, accepted, refuse◌when◌otherwise◌, ◌andThen◌}
+use Rattle.base.specs.Results.{Result, accepted, refuse◌when◌otherwise◌, ◌and_then◌}
 use Rattle.codec.specs.Bytes.{little_endian, number}
 use Rattle.model.specs.Calls.{not_opening}
 use Rattle.model.specs.Events.{event_limit, not_events, all_events}

@@ -1,0 +1,8 @@
+-- `links::link_up` meets its contract: two stations, and what their place says.
+use mathlib.Core.Path.{◌∙◌}
+use borrow.Author.Rules.{rules}
+use Rattle.model.proofs.Links.{link_at}
+use Rattle.network.proofs.links.link_up.Goals as goal
+
+pub returns : goal.returns
+returns c = c.joined.ensures ∙ link_at _ _ _ _ c.pair_place-at.ensures

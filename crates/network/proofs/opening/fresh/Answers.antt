@@ -1,0 +1,35 @@
+-- `opening::fresh` meets its contract: the stations below t have their own labels.
+use Prim.Native.Nat.{◌-◌, ◌≤◌}
+use mathlib.Core.Path.{◌≡◌, refl, ◌∙◌}
+use lib.ListN.{length-set}
+use native.Mathlib.Omega.{arith}
+use borrow.Author.Rules.{rules}
+use Rattle.base.specs.Lists.{tabulate}
+use Rattle.label.specs.Label.{unassigned}
+use Rattle.model.specs.Memory.{fresh_labels, fresh_record}
+use Rattle.network.specs.View.{record_of, packets_of, label_of}
+use Rattle.network.proofs.ViewLaws.{Labels, labels-none, labels-own, view-fresh}
+use Rattle.network.proofs.opening.fresh.Goals as goal
+
+pub loop-t-init : goal.loop-t-init
+loop-t-init c = (omega arith, record { s-length = refl; m-length = refl; d-length = refl }, labels-none _)
+
+pub loop-t-preserved : goal.loop-t-preserved
+loop-t-preserved c =
+    let at = c.loop-t in
+    let long = at.invariant.1 in (
+      omega arith,
+      record {
+        s-length = length-set at.s _ _ ∙ long.s-length;
+        m-length = length-set at.m _ _ ∙ long.m-length;
+        d-length = length-set at.d _ _ ∙ long.d-length;
+      },
+      rw c.place-at.ensures (labels-own _ _ _ _ _ long (omega arith) at.invariant.2),
+    )
+
+pub returns : goal.returns
+unfolding record_of packets_of tabulate fresh_record unassigned
+returns c =
+    let loop = c.loop-t in
+    let e : loop.t ≡ c.args.n = omega arith in
+    view-fresh _ _ _ _ _ _ _ _ _ (rw e at loop.invariant.2) c.empty_row-row.ensures refl refl

@@ -1,0 +1,18 @@
+-- `opening::fresh` meets its contract: the stations below t have their own labels.
+use Prim.Native.Nat.{◌-◌, ◌≤◌}
+use mathlib.Core.Path.{◌≡◌, refl, ◌∙◌}
+use lib.ListN.{length-set}
+use native.Mathlib.Omega.{arith}
+use borrow.Author.Rules.{rules}
+use Rattle.base.specs.Lists.{tabulate}
+use Rattle.label.specs.Label.{unassigned}
+use Rattle.model.specs.Memory.{fresh_labels, fresh_record}
+use Rattle.network.specs.View.{record_of, packets_of, label_of}
+use Rattle.network.proofs.ViewLaws.{Labels, labels-none, labels-own, view-fresh}
+use Rattle.network.proofs.opening.fresh.Given as goal
+
+abbrev pub invariant-loop-t : goal.invariant-loop-t
+invariant-loop-t l = (l.t ≤ l.n) × Labels l.s l.m l.d × (tabulate 256 (label_of l.s l.m l.d) ≡ fresh_labels l.start l.t)
+
+abbrev pub decreases-loop-t : goal.decreases-loop-t
+decreases-loop-t l = l.n - l.t

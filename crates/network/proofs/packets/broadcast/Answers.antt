@@ -1,0 +1,73 @@
+-- `packets::broadcast` meets its contract: the neighbours below b have their copies.
+use Prim.Native.Nat.{ℕ, ◌+◌, ◌-◌, ◌≤◌, ◌<◌}
+use mathlib.Core.Path.{◌≡◌, sym, ap, ◌∙◌}
+use mathlib.Core.Bool.{Bool, true}
+use mathlib.Core.List.{List, [], ◌∷◌, ◌++◌, map, append-nil}
+use lib.ListN.{length, length-append}
+use native.Mathlib.Omega.{arith}
+use borrow.Author.Rules.{rules}
+use Rattle.base.specs.Lists.{below}
+use Rattle.base.proofs.Booleans.{cases}
+use Rattle.base.proofs.Loops.{below-yes, below-no, below_next, map-below-yes, map-below-no}
+use Rattle.model.specs.Memory as model
+use Rattle.model.specs.Memory.{link_in, air_limit}
+use Rattle.model.specs.Calls.{packet}
+use Rattle.model.proofs.Links.{link_at}
+use Rattle.network.specs.View.{body_of, packets_of}
+use Rattle.network.proofs.Bounds.{array-length}
+use Rattle.network.proofs.PacketLaws.{Held, held_more}
+use Rattle.network.proofs.packets.broadcast.Goals as goal
+use Rattle.network.proofs.packets.broadcast.Goals.{then-joined, else-joined}
+
+-- Where b is a neighbour there is room for its copy.
+room :
+    (links : List Bool) (a n count b end : ℕ) → b < n → link_in links a b ≡ true → end ≡ count + length (below b (link_in links a))
+    → count + length (below n (link_in links a)) ≤ air_limit → end < air_limit
+room links a n count b end h linked e fits = omega (arith, below_next (link_in links a) b n (omega arith) linked)
+
+pub loop-b-init : goal.loop-b-init
+unfolding below
+loop-b-init c =
+    (omega arith, omega arith, record { room = array-length c.args.packets c.well_formed.0; list = sym (append-nil (packets_of c.args.packets c.args.count)) })
+
+pub overflow_cast-at : goal.overflow_cast-at
+overflow_cast-at c = record { fits = omega (arith, room c.args.links c.args.a c.args.n c.args.count _ _ (omega arith) (sym (c.joined.ensures ∙ link_at _ _ _ _ c.pair_place-pair.ensures) ∙ c.if-joined.true) c.loop-b.invariant.1 c.requires.a_bound) }
+
+pub offset_bounds-packets-at : goal.offset_bounds-packets-at
+offset_bounds-packets-at c = record { fits = omega (arith, room c.args.links c.args.a c.args.n c.args.count _ _ (omega arith) (sym (c.joined.ensures ∙ link_at _ _ _ _ c.pair_place-pair.ensures) ∙ c.if-joined.true) c.loop-b.invariant.1 c.requires.a_bound) }
+
+pub bounds-packets-at : goal.bounds-packets-at
+bounds-packets-at c = room c.args.links c.args.a c.args.n c.args.count _ _ (omega arith) (sym (c.joined.ensures ∙ link_at _ _ _ _ c.pair_place-pair.ensures) ∙ c.if-joined.true) c.loop-b.invariant.1 c.requires.a_bound
+
+pub overflow_add-end : goal.overflow_add-end
+overflow_add-end c = record { fits = omega (arith, room c.args.links c.args.a c.args.n c.args.count _ _ (omega arith) (sym (c.joined.ensures ∙ link_at _ _ _ _ c.pair_place-pair.ensures) ∙ c.if-joined.true) c.loop-b.invariant.1 c.requires.a_bound) }
+
+pub loop-b-preserved : goal.loop-b-preserved
+loop-b-preserved c =
+    let args = c.args in
+    let at = c.loop-b in
+    let up = link_in args.links args.a in
+    let copy : ℕ → model.Packet = λ x. packet args.a x (body_of args.p) args.p.serial in
+    let linked = sym (c.joined.ensures ∙ link_at _ _ _ _ c.pair_place-pair.ensures) in
+    elim c.if-joined.branch [
+        then-joined w ↦
+          let yes = linked ∙ w.if-joined.true in
+          let more = ap length (below-yes up at.b yes) ∙ length-append (below at.b up) (at.b ∷ []) in (
+            omega arith,
+            omega (arith, w.end-is, more, at.invariant.1),
+            rw (w.packets-is, w.end-is, map-below-yes up copy (packets_of args.packets args.count) at.b yes, ← w.addressed.ensures)
+                (held_more _ _ _ at.invariant.2 _ (room args.links args.a args.n args.count _ _ (omega arith) yes at.invariant.1 c.requires.a_bound)),
+          )
+      | else-joined w ↦
+          let no = linked ∙ w.if-joined.false in (
+            omega arith,
+            omega (arith, w.end-is, ap length (below-no up at.b no), at.invariant.1),
+            rw (w.packets-is, w.end-is, map-below-no up copy (packets_of args.packets args.count) at.b no) at.invariant.2,
+          )
+    ]
+
+pub returns : goal.returns
+returns c =
+    let inv = c.loop-b.invariant in
+    let e : c.loop-b.b ≡ c.args.n = omega arith in
+    rw e at (rw inv.1 at inv.2.list)

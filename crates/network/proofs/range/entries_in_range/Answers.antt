@@ -1,0 +1,26 @@
+-- `range::entries_in_range` meets its contract: the entries before place k pass.
+use Prim.Native.Nat.{◌-◌, ◌≤◌}
+use mathlib.Core.Path.{◌≡◌, sym, ◌∙◌}
+use mathlib.Core.Bool.{true}
+use native.Mathlib.Omega.{arith}
+use borrow.Author.Rules.{rules}
+use Rattle.base.specs.Lists.{all_below}
+use Rattle.base.proofs.Booleans.{not-was-true, was-true, not-was-false, was-false}
+use Rattle.base.proofs.Loops.{all_none, all_more, all-ends, all-broken, all-tabulate}
+use Rattle.model.specs.Memory.{successor_in_range}
+use Rattle.rows.specs.View.{entry_of, row_of}
+use Rattle.network.proofs.range.entries_in_range.Goals as goal
+
+pub loop-k-init : goal.loop-k-init
+loop-k-init c = (omega arith, all_none _)
+
+pub returns-then-not-entry_in_range : goal.returns-then-not-entry_in_range
+unfolding row_of
+returns-then-not-entry_in_range c = sym (all-tabulate _ _ _ ∙ all-broken _ _ _ (omega arith) (was-false _ _ ((let at-tested : let args = c.args in c.entry_in_range.result ≡ successor_in_range args.n args.i (entry_of args.row c.loop-k.k) = rw c.entry-e.ensures at c.entry_in_range.ensures in at-tested)) c.if-not-entry_in_range.true))
+
+pub loop-k-preserved : goal.loop-k-preserved
+loop-k-preserved c = (omega arith, all_more _ _ c.loop-k.invariant.1 (was-true _ _ ((let at-tested : let args = c.args in c.entry_in_range.result ≡ successor_in_range args.n args.i (entry_of args.row c.loop-k.k) = rw c.entry-e.ensures at c.entry_in_range.ensures in at-tested)) c.if-not-entry_in_range.false))
+
+pub returns : goal.returns
+unfolding row_of
+returns c = sym (all-tabulate _ _ _ ∙ all-ends _ _ _ (omega arith) c.loop-k.invariant.1)
