@@ -91,6 +91,8 @@ room (k ∷ most) = k + 1 + room most
 pub fields_within : (most l : List ℕ) → Digits most l → length (flat_map field l) ≤ room most
 unfolding flat_map
 fields_within [] [] h = omega arith
+fields_within [] (x ∷ l) h = absurd h
+fields_within (k ∷ most) [] h = absurd h
 fields_within (k ∷ most) (x ∷ l) h =
     omega (arith, length-append (field x) (flat_map field l), field-within x k h.0 h.1, fields_within most l h.2)
 

@@ -1,0 +1,51 @@
+-- `entries::put_row` meets its contract: the count, and then the first k entries are put.
+use Prim.Native.Nat.{ℕ, ◌+◌, ◌-◌, ◌≤◌}
+use mathlib.Core.Path.{◌≡◌, refl, ◌∙◌}
+use mathlib.Core.List.{[], ◌∷◌, flat_map}
+use lib.ListN.{get_or}
+use native.Mathlib.Omega.{arith}
+use borrow.Author.Rules.{rules}
+use Rattle.base.specs.Lists.{tabulate}
+use Rattle.rows.proofs.Bounds.{RowLengths, row-lengths}
+use Rattle.codec.proofs.ByteLaws.{sets-next}
+use Rattle.model.specs.Memory.{Successor, row_limit}
+use Rattle.rows.specs.declared.Row.{Row}
+use Rattle.rows.specs.View.{row_of}
+use Rattle.rows.proofs.RowLaws.{row-length}
+use Rattle.codec.specs.Fields.{Fits}
+use Rattle.codec.specs.Tables.{padded, counted_bytes}
+use Rattle.codec.proofs.FieldLaws.{written-wide}
+use Rattle.codec.proofs.TableLaws.{Put, put-none, put-length, put-more}
+use Rattle.formats.specs.Formats.{successor_format, zero_successor}
+use Rattle.formats.specs.Written.{successor_bytes}
+use Rattle.formats.proofs.EntryLaws.{row-past}
+use Rattle.formats.proofs.entries.put_row.Invariants.{entry_in}
+use Rattle.formats.proofs.entries.put_row.Goals as goal
+
+pub loop-k-init : goal.loop-k-init
+loop-k-init c = (omega arith, put-none successor_bytes (Fits successor_format) _ _ _)
+
+pub put_entry-requires : goal.put_entry-requires
+put_entry-requires c =
+    let loop = c.loop-k in
+    omega (arith, put-length successor_bytes (Fits successor_format) _ _ _ loop.out loop.k loop.invariant.1)
+
+pub loop-k-preserved : goal.loop-k-preserved
+loop-k-preserved c =
+    let loop = c.loop-k in (
+      omega arith,
+      put-more successor_bytes (Fits successor_format) _ _ _ loop.out loop.k loop.invariant.1 _ (written-wide successor_format) _ c.entry_of.ensures _
+          c.put_entry.ensures.0 c.put_entry.ensures.1,
+    )
+
+pub returns : goal.returns
+unfolding counted_bytes padded
+returns c =
+    let row = c.args.row in
+    let loop = c.loop-k in
+    let all : loop.k ≡ row_limit = omega arith in
+    let put = loop.invariant.1 in (
+      put.stands ∙ rw (all, c.put_byte.ensures, row-length row) (sets-next c.args.out.now c.args.at (c.args.at + 1) (row.count ∷ [])
+          (flat_map successor_bytes (tabulate row_limit (entry_in row))) refl),
+      record { each = λ k h. put.fits k (omega arith); past = row-past row ((let at-long : RowLengths c.args.row = row-lengths c.args.row c.well_formed.1.1.0 in at-long)) },
+    )

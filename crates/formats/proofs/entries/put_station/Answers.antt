@@ -1,0 +1,14 @@
+-- `entries::put_station` meets its contract: the station's values, put by their widths.
+use mathlib.Core.Path.{refl, ap, ◌∙◌}
+use lib.ListN.{length}
+use native.Mathlib.Omega.{arith}
+use borrow.Author.Rules.{rules}
+use Rattle.formats.proofs.entries.put_station.Goals as goal
+
+pub put_fields-requires : goal.put_fields-requires
+put_fields-requires c = (omega arith, ap length c.station_values-v.ensures.0, refl)
+
+pub returns : goal.returns
+returns c =
+    let values = c.station_values-v.ensures in
+    (c.put_fields.ensures ∙ rw values.0, values.1)

@@ -1,0 +1,7 @@
+-- `reacting::replying` meets its contract: a reply sent, and the record marked.
+use borrow.Author.Rules.{rules}
+use Rattle.station.proofs.Laws.{reacts-reply}
+use Rattle.station.proofs.reacting.replying.Goals as goal
+
+pub returns : goal.returns
+returns c = λ net k. reacts-reply net _ _ k _ _ _ _ c.passed-next.ensures c.reply_to.ensures.result_value c.reply_to.ensures.sender_value

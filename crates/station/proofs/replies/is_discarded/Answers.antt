@@ -1,0 +1,6 @@
+-- `replies::is_discarded` meets its contract: the definition.
+use borrow.Author.Rules.{rules}
+use Rattle.station.proofs.replies.is_discarded.Goals as goal
+
+pub returns : goal.returns
+returns c = λ net k l. rw (c.matches.ensures net k l)
