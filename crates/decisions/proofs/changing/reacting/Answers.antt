@@ -1,0 +1,7 @@
+-- `changing::reacting` meets its contract: all that the reaction says.
+use mathlib.Core.Path.{refl}
+use borrow.Author.Rules.{rules}
+use Rattle.decisions.proofs.changing.reacting.Goals as goal
+
+pub returns : goal.returns
+returns c = record { reacted = c.react-reaction.ensures; number_is = refl; sought-is = refl; drops-is = refl }

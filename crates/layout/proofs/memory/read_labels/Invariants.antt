@@ -1,0 +1,20 @@
+-- `memory::read_labels` meets its contract: s, m and d of the first i labels are read.
+use Prim.Native.Nat.{◌+◌, ◌-◌, ◌*◌, ◌≤◌}
+use mathlib.Core.Path.{refl, ap}
+use native.Mathlib.Omega.{arith}
+use borrow.Author.Rules.{rules}
+use Rattle.base.proofs.Loops.{Filled, filled_none, filled_more, filled-all}
+use Rattle.label.specs.declared.Label.{Label}
+use Rattle.formats.specs.Formats.{label_wide}
+use Rattle.formats.specs.Stored.{stored_label}
+use Rattle.layout.specs.Places.{labels_at}
+use Rattle.layout.proofs.StoredLaws.{labels-stored}
+use Rattle.layout.proofs.memory.read_labels.Given as goal
+
+abbrev pub invariant-loop-i : goal.invariant-loop-i
+invariant-loop-i l = (l.i ≤ 256) × Filled 256 (λ k. (stored_label l.bytes (labels_at + label_wide * k)).s.0) l.s l.i
+    × Filled 256 (λ k. (stored_label l.bytes (labels_at + label_wide * k)).m) l.m l.i
+    × Filled 256 (λ k. (stored_label l.bytes (labels_at + label_wide * k)).d) l.d l.i
+
+abbrev pub decreases-loop-i : goal.decreases-loop-i
+decreases-loop-i l = 256 - l.i

@@ -1,0 +1,25 @@
+-- `memory::read_rows` meets its contract: the first i rows are read.
+use Prim.Native.Nat.{◌+◌, ◌-◌, ◌*◌, ◌≤◌}
+use mathlib.Core.Path.{refl}
+use mathlib.Core.List.{map}
+use native.Mathlib.Omega.{arith}
+use borrow.Author.Rules.{rules}
+use Rattle.base.proofs.Loops.{Filled, filled_none, filled-map-more, filled-all}
+use Rattle.codec.specs.Tables.{table_at}
+use Rattle.rows.specs.View.{row_of}
+use Rattle.formats.specs.Formats.{row_wide}
+use Rattle.formats.specs.Stored.{stored_row}
+use Rattle.layout.specs.Places.{rows_at}
+use Rattle.layout.proofs.memory.read_rows.Goals as goal
+
+pub loop-i-init : goal.loop-i-init
+loop-i-init c = (omega arith, filled_none _ _ _ refl)
+
+pub loop-i-preserved : goal.loop-i-preserved
+loop-i-preserved c =
+    let loop = c.loop-i in
+    (omega arith, filled-map-more row_of _ _ loop.rows loop.i _ loop.invariant.1 (omega arith) c.read_row.ensures)
+
+pub returns : goal.returns
+unfolding table_at
+returns c = let loop = c.loop-i in filled-all _ _ (map row_of loop.rows) loop.i loop.invariant.1 (omega arith)

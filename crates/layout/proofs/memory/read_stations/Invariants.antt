@@ -1,0 +1,22 @@
+-- `memory::read_stations` meets its contract: what the first i stations keep is read.
+use Prim.Native.Nat.{◌+◌, ◌-◌, ◌*◌, ◌≤◌}
+use mathlib.Core.Path.{refl, ap, ◌∙◌}
+use mathlib.Core.List.{map}
+use native.Mathlib.Omega.{arith}
+use borrow.Author.Rules.{rules}
+use Rattle.base.proofs.Loops.{Filled, filled_none, filled_more, filled-map-more, filled-all}
+use Rattle.network.specs.declared.RequestNumber.{RequestNumber}
+use Rattle.formats.specs.Formats.{Station, station_wide}
+use Rattle.formats.specs.Stored.{stored_station}
+use Rattle.layout.specs.Places.{stations_at}
+use Rattle.layout.proofs.StoredLaws.{stations-stored}
+use Rattle.layout.proofs.memory.read_stations.Given as goal
+
+abbrev pub invariant-loop-i : goal.invariant-loop-i
+invariant-loop-i l = (l.i ≤ 16) × Filled 16 (λ k. (stored_station l.bytes (stations_at + station_wide * k)).number) (map (λ (x : RequestNumber). x.0) l.numbers) l.i
+    × Filled 16 (λ k. (stored_station l.bytes (stations_at + station_wide * k)).sought) l.sought l.i
+    × Filled 16 (λ k. (stored_station l.bytes (stations_at + station_wide * k)).active) l.active l.i
+    × Filled 16 (λ k. (stored_station l.bytes (stations_at + station_wide * k)).serial) l.serials l.i
+
+abbrev pub decreases-loop-i : goal.decreases-loop-i
+decreases-loop-i l = 16 - l.i
