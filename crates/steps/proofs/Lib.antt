@@ -12,3 +12,4 @@ pub mod PartingLaws
 pub mod SingleLaws
 pub mod TraceLaws
 pub mod ToldLaws
+pub mod TurnFacts

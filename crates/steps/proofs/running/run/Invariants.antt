@@ -36,6 +36,7 @@ use Rattle.steps.proofs.RunLaws.{turn-none, turn_below, turn-room, turn-listed, 
 use Rattle.steps.proofs.ArmLaws.{seen, Tested, class-cut, turned_down, light-shape, light-happens, trace-below, trace-happens}
 use Rattle.steps.proofs.ChangeLaws.{Looks, unused, arrived, goes, changed, changed-shape, change-stopped, ChangeMoved, change-happens}
 use Rattle.steps.proofs.CutLaws.{Lost, lost-none, lost-below, lost-more, CutRows, cut-none, cut-more, cut_all}
+use Rattle.steps.proofs.TurnFacts.{begins, event-among, event-counted, tests-hold, pair-below, place-below, two-below, stations-below, places-below, walk-at, walk-goes, walk-less, rows-once, rows-read, cut-pieces, cut-few, air-fits, turn-places, below-few, rows-same, rows-same-once, all-turns, spot-places, looks-there, change-few}
 use Rattle.steps.proofs.PartingLaws.{cut_below, cut-there, with_rows, with-links, Cutting, cut-shape, counted-serials, cut-stopped, CutMoved, cut-happens}
 use Rattle.steps.proofs.running.run.Given as goal
 
