@@ -1,0 +1,19 @@
+-- `gather` meets its contract: each part read at its place.
+use Prim.Native.Nat.{ℕ, ◌-◌, ◌≤◌, ◌<◌}
+use mathlib.Core.Path.{◌≡◌, refl, ap, ◌∙◌}
+use lib.ListN.{get_or}
+use native.Mathlib.Omega.{arith}
+use borrow.Author.Rules.{rules}
+use Rattle.base.proofs.Loops.{Filled, filled_none, filled_more, filled-all}
+use Rattle.model.specs.Memory.{place}
+use Rattle.rows.specs.View.{zero_row}
+use Rattle.network.specs.View.{label_of}
+use Rattle.previews.proofs.GatherLaws.{gathered-is}
+use Rattle.previews.proofs.gather.Given as goal
+
+-- The rows read so far.
+abbrev pub invariant-loop-u : goal.invariant-loop-u
+invariant-loop-u l = (l.u ≤ 16) × Filled 16 (λ t. get_or l.memory.rows (place l.station t) zero_row) l.rows l.u
+
+abbrev pub decreases-loop-u : goal.decreases-loop-u
+decreases-loop-u l = 16 - l.u
