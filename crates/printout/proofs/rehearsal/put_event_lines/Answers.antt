@@ -32,8 +32,8 @@ loop-i-preserved c =
           (c.sent_of-sent.ensures _ _ _ _ told.1 told.0)
           (c.air_of-air.ensures _ _ _ _ told.1 told.0)
           (c.hops_of-hops.ensures _ _ _ _ told.1 told.0))
-          (puts-append (loop.invariant.1 net w) put.ensures.0)),
-      put.auto.0 ∙ loop.invariant.2,
+          (puts-append (loop.invariant.1 net w) put.ensures.puts_at)),
+      put.auto.out ∙ loop.invariant.2,
       omega arith,
     )
 

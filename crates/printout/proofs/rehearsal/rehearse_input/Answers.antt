@@ -10,12 +10,17 @@ use Rattle.printout.specs.Printed.{Prints}
 use Rattle.printout.proofs.RehearsalLaws.{routes-loop-free, tally-fits, take_min, prints-whole}
 use Rattle.printout.proofs.rehearsal.rehearse_input.Goals as goal
 
-pub returns : goal.returns
-returns c =
-    let args = least.before.before.args in
-    let input = args.input.now in
-    let out = args.out.now in
+pub returns-clause-text : goal.returns-clause-text
+returns-clause-text c =
+    let input = c.args.input.now in
+    let out = c.args.out.now in
     let out' = c.rehearse.new.out in
-    let counted : take c.least-end.result input ≡ take args.count input = rw c.least-end.ensures (take_min args.count input) in
+    let counted : take c.least-end.result input ≡ take c.args.count input = rw c.least-end.ensures (take_min c.args.count input) in
     let put = subst (λ (b : List ℕ). Prints b out c.rehearse.result out') counted c.rehearse.ensures.text in
-    record { text = (λ whole e. prints-whole (length input) args.count input whole out c.rehearse.result out' (omega arith) e put); length = c.rehearse.ensures.length; loop_free = (λ whole. routes-loop-free whole _); tally = λ whole. tally-fits whole _ }
+    λ whole e. prints-whole (length input) c.args.count input whole out c.rehearse.result out' (omega arith) e put
+
+pub returns-clause-loop_free : goal.returns-clause-loop_free
+returns-clause-loop_free c = λ whole. routes-loop-free whole _
+
+pub returns-clause-tally : goal.returns-clause-tally
+returns-clause-tally c = λ whole. tally-fits whole _

@@ -3,7 +3,7 @@
 use Prim.Native.Nat.{ℕ, ◌*◌, ◌≤◌}
 use mathlib.Core.Path.{◌≡◌, sym, ap, ◌∙◌}
 use mathlib.Core.Bool.{false}
-use mathlib.Core.List.{[]}
+use mathlib.Core.List.{List, []}
 use lib.ListN.{length}
 use native.Mathlib.Omega.{arith}
 use borrow.Author.Rules.{rules}
@@ -19,38 +19,47 @@ use Rattle.printout.proofs.RehearsalLaws.{Scripted, not-read, scripted, rehearsi
 use Rattle.printout.proofs.RehearsalLaws.{routes-loop-free, tally-fits, rehearses-refused, rehearses-accepted}
 use Rattle.printout.proofs.rehearsal.rehearse_under.Goals as goal
 
+-- What the contracts say of a rehearsal that is turned down.
+refused-so : (r : Rehearsed) (script : List ℕ) (limit : ℕ) (out : List ℕ) (number : ℕ) → rehearsing script limit (length out) ≡ refused number → r ≡ rehearsed 0 number (tally_of [])
+    → Rehearses script limit out r out × RoutesLoopFree script limit × TallyFits script limit × ((r.length ≤ printout_room) × (r.tally.calls ≤ event_limit))
+unfolding tally_of
+refused-so r script limit out number e is =
+    let short = ap (λ (x : Rehearsed). x.length) is in
+    let none = ap (λ (x : Rehearsed). x.tally.calls) is in
+    (rehearses-refused _ _ _ number e is, routes-loop-free _ _, tally-fits _ _, (omega arith, omega arith))
+
 pub returns-then-answer-ne0 : goal.returns-then-answer-ne0
 returns-then-answer-ne0 c =
-    let both = refused-so (c) _ (rehearsing-unread _ _ _ _ (not-read _ _ _ c.read-found.result c.read-found.ensures.read c.if-answer-ne0.true)) c.turned_down.ensures in
+    let both = refused-so _ c.args.script.now c.args.limit c.args.out.now _ (rehearsing-unread _ _ _ _ (not-read _ _ _ c.read-found.result c.read-found.ensures.read c.if-answer-ne0.true)) c.turned_down.ensures in
     record { text = both.0; loop_free = both.1; tally = both.2; bounded = both.3 }
 
 pub returns-then-limit_refused : goal.returns-then-limit_refused
 returns-then-limit_refused c =
-    let both = refused-so (c) 14 (rehearsing-14 _ _ _ _ ((scripted _ _ _ c.read-found.result c.read-found.ensures.read c.if-answer-ne0.false)).reads (sym c.limit_refused.ensures ∙ c.if-limit_refused.true)) c.turned_down-then-limit_refused.ensures in
+    let both = refused-so _ c.args.script.now c.args.limit c.args.out.now 14 (rehearsing-14 _ _ _ _ (scripted _ _ _ c.read-found.result c.read-found.ensures.read c.if-answer-ne0.false).reads (sym c.limit_refused.ensures ∙ c.if-limit_refused.true)) c.turned_down-then-limit_refused.ensures in
     record { text = both.0; loop_free = both.1; tally = both.2; bounded = both.3 }
 
 pub returns-then-out-lt-ROOM : goal.returns-then-out-lt-ROOM
 returns-then-out-lt-ROOM c =
-    let both = refused-so (c) 12 (rehearsing-12 _ _ _ _ ((scripted _ _ _ c.read-found.result c.read-found.ensures.read c.if-answer-ne0.false)).reads ((sym c.limit_refused.ensures ∙ c.if-limit_refused.false)) (omega arith)) c.turned_down-then-out-lt-ROOM.ensures in
+    let both = refused-so _ c.args.script.now c.args.limit c.args.out.now 12 (rehearsing-12 _ _ _ _ (scripted _ _ _ c.read-found.result c.read-found.ensures.read c.if-answer-ne0.false).reads (sym c.limit_refused.ensures ∙ c.if-limit_refused.false) (omega arith)) c.turned_down-then-out-lt-ROOM.ensures in
     record { text = both.0; loop_free = both.1; tally = both.2; bounded = both.3 }
 
 pub overflow_mul-pairs : goal.overflow_mul-pairs
-overflow_mul-pairs c = record { fits = omega (arith, ((scripted _ _ _ c.read-found.result c.read-found.ensures.read c.if-answer-ne0.false)).few) }
+overflow_mul-pairs c = record { fits = omega (arith, (scripted _ _ _ c.read-found.result c.read-found.ensures.read c.if-answer-ne0.false).few) }
 
 pub overflow_cast-limit : goal.overflow_cast-limit
-overflow_cast-limit c = record { fits = omega (arith, limit-tells _ ((sym c.limit_refused.ensures ∙ c.if-limit_refused.false))) }
+overflow_cast-limit c = record { fits = omega (arith, limit-tells _ (sym c.limit_refused.ensures ∙ c.if-limit_refused.false)) }
 
 pub slice_bounds-kinds-end : goal.slice_bounds-kinds-end
-slice_bounds-kinds-end c = ((scripted _ _ _ c.read-found.result c.read-found.ensures.read c.if-answer-ne0.false)).kinds-long.0
+slice_bounds-kinds-end c = (scripted _ _ _ c.read-found.result c.read-found.ensures.read c.if-answer-ne0.false).kinds-long.0
 
 pub slice_bounds-put_rehearsal-end : goal.slice_bounds-put_rehearsal-end
-slice_bounds-put_rehearsal-end c = sym ((scripted _ _ _ c.read-found.result c.read-found.ensures.read c.if-answer-ne0.false)).kinds-long.1
+slice_bounds-put_rehearsal-end c = sym (scripted _ _ _ c.read-found.result c.read-found.ensures.read c.if-answer-ne0.false).kinds-long.1
 
 pub slice_bounds-operands-end : goal.slice_bounds-operands-end
-slice_bounds-operands-end c = ((scripted _ _ _ c.read-found.result c.read-found.ensures.read c.if-answer-ne0.false)).operands-long.0
+slice_bounds-operands-end c = (scripted _ _ _ c.read-found.result c.read-found.ensures.read c.if-answer-ne0.false).operands-long.0
 
 pub slice_bounds-put_rehearsal-end-2 : goal.slice_bounds-put_rehearsal-end-2
-slice_bounds-put_rehearsal-end-2 c = sym ((scripted _ _ _ c.read-found.result c.read-found.ensures.read c.if-answer-ne0.false)).operands-long.1
+slice_bounds-put_rehearsal-end-2 c = sym (scripted _ _ _ c.read-found.result c.read-found.ensures.read c.if-answer-ne0.false).operands-long.1
 
 pub put_rehearsal-requires : goal.put_rehearsal-requires
 put_rehearsal-requires c =
@@ -63,4 +72,4 @@ returns c =
     let args = c.args in
     let s = in_arrays c.read-found.result c.read-found.new.kinds c.read-found.new.operands in
     let made = c.put_rehearsal.ensures in
-    let ends = rehearsing-accepted args.script.now args.limit (length args.out.now) s ((scripted _ _ _ c.read-found.result c.read-found.ensures.read c.if-answer-ne0.false)).reads ((sym c.limit_refused.ensures ∙ c.if-limit_refused.false)) (omega arith) in record { text = rehearses-accepted args.script.now args.limit args.out.now (rehearsal_of args.limit s) ends made.puts_at (omega arith) made.answer_value.0 made.answer_value.1; loop_free = routes-loop-free args.script.now args.limit; tally = tally-fits args.script.now args.limit; bounded = made.length_le_printout_room }
+    let ends = rehearsing-accepted args.script.now args.limit (length args.out.now) s (scripted _ _ _ c.read-found.result c.read-found.ensures.read c.if-answer-ne0.false).reads (sym c.limit_refused.ensures ∙ c.if-limit_refused.false) (omega arith) in record { text = rehearses-accepted args.script.now args.limit args.out.now (rehearsal_of args.limit s) ends made.puts_at (omega arith) made.answer_value.0 made.answer_value.1; loop_free = routes-loop-free args.script.now args.limit; tally = tally-fits args.script.now args.limit; bounded = made.length_le_printout_room }

@@ -1,0 +1,15 @@
+-- `calls::call` meets its contract: refused with 1, or the event of narrowed numbers.
+use borrow.Author.Rules.{rules}
+use Rattle.base.proofs.Booleans.{not-was-true, was-true, not-was-false, was-false}
+use Rattle.model.proofs.EventLaws.{call-on-memory}
+use Rattle.network.proofs.Bounds.{sized}
+use Rattle.steps.proofs.CallLaws.{called-out-of-range}
+use Rattle.sandbox.proofs.NarrowLaws.{call-is}
+use Rattle.sandbox.proofs.calls.call.Goals as goal
+
+pub returns-then-not-in_range : goal.returns-then-not-in_range
+returns-then-not-in_range c = λ nine event. called-out-of-range _ _ (call-on-memory _ _ _) (was-false _ _ c.in_range.ensures c.if-not-in_range.true)
+
+pub returns : goal.returns
+returns c =
+    call-is _ (sized c.args.memory c.well_formed.0) _ _ _ _ _ _ c.narrow.ensures c.narrow-2.ensures c.event_in_range-happened.ensures

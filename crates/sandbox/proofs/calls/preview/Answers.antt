@@ -1,0 +1,23 @@
+-- `calls::preview` meets its contract: refused with 1, or the preview of a narrowed number.
+use mathlib.Core.Path.{sym, ◌∙◌}
+use borrow.Author.Rules.{rules}
+use Rattle.base.proofs.Booleans.{not-was-true, was-true, not-was-false, was-false}
+use Rattle.model.proofs.PreviewLaws.{preview-out-of-range}
+use Rattle.network.proofs.Bounds.{memory-lengths}
+use Rattle.previews.specs.Gathered.{InRange}
+use Rattle.previews.proofs.GatherLaws.{narrow-shown}
+use Rattle.sandbox.proofs.calls.preview.Goals as goal
+
+pub returns-then-not-in_range : goal.returns-then-not-in_range
+returns-then-not-in_range c = c.turned_down.ensures ∙ sym (preview-out-of-range _ _ (was-false _ _ c.in_range.ensures c.if-not-in_range.true))
+
+pub returns : goal.returns
+returns c =
+    let m = c.args.memory in
+    c.preview_of.ensures m ((let at-ranged : InRange c.args.memory = record {
+  ranged = was-true _ _ c.in_range.ensures c.if-not-in_range.false;
+  lengths = memory-lengths c.args.memory c.well_formed.0;
+} in at-ranged)) c.gather.ensures ∙ narrow-shown ((let at-ranged : InRange c.args.memory = record {
+  ranged = was-true _ _ c.in_range.ensures c.if-not-in_range.false;
+  lengths = memory-lengths c.args.memory c.well_formed.0;
+} in at-ranged)) _ c.narrow-a.ensures

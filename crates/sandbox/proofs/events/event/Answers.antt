@@ -1,0 +1,8 @@
+-- `events::event` meets its contract: refused with 1, or the event on memory in range.
+use borrow.Author.Rules.{rules}
+use Rattle.base.proofs.Booleans.{not-was-true, was-true, not-was-false, was-false}
+use Rattle.steps.proofs.HappenLaws.{happens-out-of-range}
+use Rattle.sandbox.proofs.events.event.Goals as goal
+
+pub returns-then-not-in_range : goal.returns-then-not-in_range
+returns-then-not-in_range c = happens-out-of-range _ _ _ _ (was-false _ _ c.in_range.ensures c.if-not-in_range.true)

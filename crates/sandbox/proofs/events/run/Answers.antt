@@ -1,0 +1,65 @@
+-- `events::run` meets its contract: refused with 10, 1, 11 or 12, or the events one after the other; and the claim of demand 3.
+use mathlib.Core.Path.{◌≡◌, refl, sym, ap, ◌∙◌}
+use mathlib.Core.Bool.{true, false, not}
+use mathlib.Core.List.{[]}
+use lib.ListN.{length}
+use native.Mathlib.Omega.{arith}
+use borrow.Author.Rules.{rules}
+use Rattle.base.proofs.Booleans.{clash, not-was-true, was-true, not-was-false, was-false}
+use Rattle.base.proofs.Results.{refuse-holds, refuse-passes}
+use Rattle.model.specs.Memory.{memory_in_range}
+use Rattle.model.specs.Events.{not_events, all_events, running_by}
+use Rattle.model.specs.Tally.{tally_of}
+use Rattle.model.proofs.EventLaws.{events-tell}
+use Rattle.network.specs.View.{view}
+use Rattle.network.proofs.Bounds.{sized}
+use Rattle.telling.specs.Tallies.{tally_in}
+use Rattle.steps.proofs.ToldLaws.{told-lines}
+use Rattle.sandbox.proofs.RunLaws.{run-refused, run-no-room, run-accepted}
+use Rattle.sandbox.proofs.events.run.Goals as goal
+
+pub returns-then-not_events : goal.returns-then-not_events
+unfolding running_by
+returns-then-not_events c =
+    let both = run-refused _ _ _ _ 10 _ (omega arith) (λ z. omega arith) (refuse-holds 10 _ _ (sym c.not_events.ensures ∙ c.if-not_events.true)) _ (c.no_events-none.ensures) in
+    record { run = both.0; told = both.1; tallied = both.2; limit = both.3; loop_free = both.4; reached = both.5; fits = both.6 }
+
+pub returns-then-not-in_range : goal.returns-then-not-in_range
+unfolding running_by
+returns-then-not-in_range c =
+    let both = run-refused _ _ _ _ 1 _ (omega arith) (λ z. omega arith) (refuse-passes 10 _ _ ((sym c.not_events.ensures ∙ c.if-not_events.false))
+    ∙ refuse-holds 1 _ _ (ap not (was-false _ _ c.in_range.ensures c.if-not-in_range.true))) _ (c.no_events-none.ensures) in
+    record { run = both.0; told = both.1; tallied = both.2; limit = both.3; loop_free = both.4; reached = both.5; fits = both.6 }
+
+pub all_events-requires : goal.all_events-requires
+all_events-requires c = let w = events-tell _ _ ((sym c.not_events.ensures ∙ c.if-not_events.false)) in omega (arith, w.1)
+
+pub returns-then-not-all_events : goal.returns-then-not-all_events
+unfolding running_by
+returns-then-not-all_events c =
+    let both = run-refused _ _ _ _ 11 _ (omega arith) (λ z. omega arith) (refuse-passes 10 _ _ ((sym c.not_events.ensures ∙ c.if-not_events.false)) ∙ refuse-passes 1 _ _ (ap not ((was-true _ _ c.in_range.ensures c.if-not-in_range.false)))
+    ∙ refuse-holds 11 _ _ (ap not (was-false _ _ c.all_events.ensures c.if-not-all_events.true))) _ (c.no_events-none.ensures) in
+    record { run = both.0; told = both.1; tallied = both.2; limit = both.3; loop_free = both.4; reached = both.5; fits = both.6 }
+
+pub returns-then-lines-count : goal.returns-then-lines-count
+returns-then-lines-count c =
+    let both = run-no-room _ _ _ _ ((sym c.not_events.ensures ∙ c.if-not_events.false)) ((was-true _ _ c.in_range.ensures c.if-not-in_range.false)) ((was-true _ _ c.all_events.ensures c.if-not-all_events.false)) (omega arith) _ (c.no_events-none.ensures) in
+    record { run = both.0; told = both.1; tallied = both.2; limit = both.3; loop_free = both.4; reached = both.5; fits = both.6 }
+
+pub run-ran-requires : goal.run-ran-requires
+run-ran-requires c =
+    let w = events-tell _ _ ((sym c.not_events.ensures ∙ c.if-not_events.false)) in
+    record { memory_value = (was-true _ _ c.in_range.ensures c.if-not-in_range.false); kinds_len_bound = (w.0, w.1, omega arith); lines_value = λ d. clash d refl }
+
+pub tally_of-tally-requires : goal.tally_of-tally-requires
+tally_of-tally-requires c =
+    let w = events-tell _ _ ((sym c.not_events.ensures ∙ c.if-not_events.false)) in
+    (w.0, search rules)
+
+pub returns : goal.returns
+returns c =
+    let both = let ran = c.run-ran.ensures in
+    let start = past.before.before.before.before.before.before.before.before in
+    run-accepted _ _ _ _ ((sym c.not_events.ensures ∙ c.if-not_events.false)) ((was-true _ _ c.in_range.ensures c.if-not-in_range.false)) ((was-true _ _ c.all_events.ensures c.if-not-all_events.false)) _ _ ran.ran (sized _ start.good.0) (omega arith) ran.told-are ran.fit
+    _ (c.tally_of-tally.ensures.by_index _ (told-lines _ _ _ _ _ (omega arith) ran.fit ran.told-are)) in
+    record { run = both.0; told = both.1; tallied = both.2; limit = both.3; loop_free = both.4; reached = both.5; fits = both.6 }
