@@ -22,14 +22,14 @@ pub returns-then-not_events : goal.returns-then-not_events
 unfolding running_by
 returns-then-not_events c =
     let both = run-refused _ _ _ _ 10 _ (omega arith) (λ z. omega arith) (refuse-holds 10 _ _ (sym c.not_events.ensures ∙ c.if-not_events.true)) _ (c.no_events-none.ensures) in
-    record { run = both.0; told = both.1; tallied = both.2; limit = both.3; loop_free = both.4; reached = both.5; fits = both.6 }
+    record { run = both.0; told = both.1.0; tallied = both.1.1.0; limit = both.1.1.1.0; loop_free = both.1.1.1.1.0; reached = both.1.1.1.1.1.0; fits = both.1.1.1.1.1.1 }
 
 pub returns-then-not-in_range : goal.returns-then-not-in_range
 unfolding running_by
 returns-then-not-in_range c =
     let both = run-refused _ _ _ _ 1 _ (omega arith) (λ z. omega arith) (refuse-passes 10 _ _ ((sym c.not_events.ensures ∙ c.if-not_events.false))
     ∙ refuse-holds 1 _ _ (ap not (was-false _ _ c.in_range.ensures c.if-not-in_range.true))) _ (c.no_events-none.ensures) in
-    record { run = both.0; told = both.1; tallied = both.2; limit = both.3; loop_free = both.4; reached = both.5; fits = both.6 }
+    record { run = both.0; told = both.1.0; tallied = both.1.1.0; limit = both.1.1.1.0; loop_free = both.1.1.1.1.0; reached = both.1.1.1.1.1.0; fits = both.1.1.1.1.1.1 }
 
 pub all_events-requires : goal.all_events-requires
 all_events-requires c = let w = events-tell _ _ ((sym c.not_events.ensures ∙ c.if-not_events.false)) in omega (arith, w.1)
@@ -39,12 +39,12 @@ unfolding running_by
 returns-then-not-all_events c =
     let both = run-refused _ _ _ _ 11 _ (omega arith) (λ z. omega arith) (refuse-passes 10 _ _ ((sym c.not_events.ensures ∙ c.if-not_events.false)) ∙ refuse-passes 1 _ _ (ap not ((was-true _ _ c.in_range.ensures c.if-not-in_range.false)))
     ∙ refuse-holds 11 _ _ (ap not (was-false _ _ c.all_events.ensures c.if-not-all_events.true))) _ (c.no_events-none.ensures) in
-    record { run = both.0; told = both.1; tallied = both.2; limit = both.3; loop_free = both.4; reached = both.5; fits = both.6 }
+    record { run = both.0; told = both.1.0; tallied = both.1.1.0; limit = both.1.1.1.0; loop_free = both.1.1.1.1.0; reached = both.1.1.1.1.1.0; fits = both.1.1.1.1.1.1 }
 
 pub returns-then-lines-count : goal.returns-then-lines-count
 returns-then-lines-count c =
     let both = run-no-room _ _ _ _ ((sym c.not_events.ensures ∙ c.if-not_events.false)) ((was-true _ _ c.in_range.ensures c.if-not-in_range.false)) ((was-true _ _ c.all_events.ensures c.if-not-all_events.false)) (omega arith) _ (c.no_events-none.ensures) in
-    record { run = both.0; told = both.1; tallied = both.2; limit = both.3; loop_free = both.4; reached = both.5; fits = both.6 }
+    record { run = both.0; told = both.1.0; tallied = both.1.1.0; limit = both.1.1.1.0; loop_free = both.1.1.1.1.0; reached = both.1.1.1.1.1.0; fits = both.1.1.1.1.1.1 }
 
 pub run-ran-requires : goal.run-ran-requires
 run-ran-requires c =
@@ -59,7 +59,6 @@ tally_of-tally-requires c =
 pub returns : goal.returns
 returns c =
     let both = let ran = c.run-ran.ensures in
-    let start = past.before.before.before.before.before.before.before.before in
-    run-accepted _ _ _ _ ((sym c.not_events.ensures ∙ c.if-not_events.false)) ((was-true _ _ c.in_range.ensures c.if-not-in_range.false)) ((was-true _ _ c.all_events.ensures c.if-not-all_events.false)) _ _ ran.ran (sized _ start.good.0) (omega arith) ran.told-are ran.fit
+    run-accepted _ _ _ _ ((sym c.not_events.ensures ∙ c.if-not_events.false)) ((was-true _ _ c.in_range.ensures c.if-not-in_range.false)) ((was-true _ _ c.all_events.ensures c.if-not-all_events.false)) _ _ ran.ran (sized _ c.well_formed.0) (omega arith) ran.told-are ran.fit
     _ (c.tally_of-tally.ensures.by_index _ (told-lines _ _ _ _ _ (omega arith) ran.fit ran.told-are)) in
-    record { run = both.0; told = both.1; tallied = both.2; limit = both.3; loop_free = both.4; reached = both.5; fits = both.6 }
+    record { run = both.0; told = both.1.0; tallied = both.1.1.0; limit = both.1.1.1.0; loop_free = both.1.1.1.1.0; reached = both.1.1.1.1.1.0; fits = both.1.1.1.1.1.1 }
