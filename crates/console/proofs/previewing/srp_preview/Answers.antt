@@ -1,0 +1,22 @@
+-- `previewing::srp_preview` meets its contract: refused with the preview's number, then with 12, or what the preview shows.
+use mathlib.Core.Path.{◌≡◌, ap, ◌∙◌}
+use mathlib.Core.Bool.{false}
+use borrow.Author.Rules.{rules}
+use Rattle.base.proofs.Booleans.{was-true, was-false}
+use Rattle.base.specs.Results.{is_refusal}
+use Rattle.model.specs.Preview.{preview}
+use Rattle.layout.specs.Meaning.{stored_network}
+use Rattle.previews.specs.Shown.{preview_of}
+use Rattle.console.proofs.PreviewLaws.{preview-refused, preview-12, preview-shown}
+use Rattle.console.proofs.previewing.srp_preview.Goals as goal
+
+pub returns-then-refused : goal.returns-then-refused
+returns-then-refused c =
+    rw c.packed.ensures (preview-refused _ _ _ ((c.preview-seen.ensures ∙ ap (λ net1. preview net1 c.args.k) c.load.ensures)) (was-true _ _ c.refused.ensures c.if-refused.true))
+
+pub returns-then-out-lt-PREVIEW_BYTES : goal.returns-then-out-lt-PREVIEW_BYTES
+returns-then-out-lt-PREVIEW_BYTES c = preview-12 _ _ _ ((c.preview-seen.ensures ∙ ap (λ net2. preview net2 c.args.k) c.load.ensures)) ((was-false _ _ c.refused.ensures c.if-refused.false)) c.if-out-lt-PREVIEW_BYTES.true
+
+pub returns : goal.returns
+returns c =
+    preview-shown _ _ _ ((c.preview-seen.ensures ∙ ap (λ net4. preview net4 c.args.k) c.load.ensures)) ((was-false _ _ c.refused.ensures c.if-refused.false)) c.if-out-lt-PREVIEW_BYTES.false _ _ c.packed-2.ensures c.put_preview.ensures

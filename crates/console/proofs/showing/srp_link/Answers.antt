@@ -1,0 +1,30 @@
+-- `showing::srp_link` meets its contract: refused with 1 or 2, or the link's flag.
+use Prim.Native.Nat.{◌<◌}
+use mathlib.Core.Path.{◌≡◌, ◌∙◌}
+use mathlib.Core.Bool.{false}
+use native.Mathlib.Omega.{arith}
+use borrow.Author.Rules.{rules}
+use Rattle.base.proofs.Booleans.{was-true, was-false}
+use Rattle.layout.proofs.MeaningLaws.{Readable}
+use Rattle.console.specs.Showing.{out_of_range}
+use Rattle.console.proofs.ShowLaws.{range-readable, tells-1, tells-refused, tells-value}
+use Rattle.console.proofs.ShownLaws.{no_pair, pair-below, show-link-2, show-link}
+use Rattle.console.proofs.showing.srp_link.Goals as goal
+
+pub returns-then-out_of_range : goal.returns-then-out_of_range
+returns-then-out_of_range c = tells-1 _ _ (was-true _ _ c.out_of_range.ensures c.if-out_of_range.true)
+
+pub bounds-memory-1 : goal.bounds-memory-1
+bounds-memory-1 c = omega (arith, (range-readable _ (was-false _ _ c.out_of_range.ensures c.if-out_of_range.false)))
+
+pub returns-then-not_pair : goal.returns-then-not_pair
+returns-then-not_pair c =
+    tells-refused _ _ 2 (was-false _ _ c.out_of_range.ensures c.if-out_of_range.false) (show-link-2 _ (range-readable _ (was-false _ _ c.out_of_range.ensures c.if-out_of_range.false)) _ _ (was-true _ _ c.not_pair.ensures c.if-not_pair.true))
+
+pub read_link-up-requires : goal.read_link-up-requires
+read_link-up-requires c = omega (arith, c.pair_place-at.ensures, (pair-below c.args.memory.now (range-readable _ (was-false _ _ c.out_of_range.ensures c.if-out_of_range.false)).few _ _ ((was-false _ _ c.not_pair.ensures c.if-not_pair.false))), (range-readable _ (was-false _ _ c.out_of_range.ensures c.if-out_of_range.false)))
+
+pub returns : goal.returns
+returns c =
+    tells-value _ _ _ _ (was-false _ _ c.out_of_range.ensures c.if-out_of_range.false) (show-link _ (range-readable _ (was-false _ _ c.out_of_range.ensures c.if-out_of_range.false)) _ _ ((was-false _ _ c.not_pair.ensures c.if-not_pair.false)))
+    (c.packed.ensures ∙ rw (c.read_link-up.ensures, c.pair_place-at.ensures))
