@@ -1,8 +1,14 @@
 // The rehearsal program: a script on standard input, its printout on standard output (01, "Scripts and the printout").
 #![tactic(auto)]
 
-use libc::{STDERR_FILENO, STDIN_FILENO, STDOUT_FILENO};
 use printout::rehearsal::{INPUT_ROOM, ROOM, rehearse_input};
+
+// The descriptors that a program begins with.
+const STDIN_FILENO: i32 = 0;
+
+const STDOUT_FILENO: i32 = 1;
+
+const STDERR_FILENO: i32 = 2;
 
 // It reads as many of the input's bytes as tell what the whole of it prints.
 fn main() {
