@@ -1,7 +1,6 @@
 -- `byte_at` meets its contract: a number of one byte is the byte.
 use mathlib.Core.Path.{sym}
 use native.Mathlib.Omega.{arith}
-use borrow.Author.Rules.{rules}
 use Rattle.codec.proofs.ByteLaws.{number-one}
 use Rattle.codec.proofs.byte_at.Goals as goal
 

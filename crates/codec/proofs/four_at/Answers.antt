@@ -1,7 +1,6 @@
 -- `four_at` meets its contract: the two parts make the number.
 use mathlib.Core.Path.{sym}
 use native.Mathlib.Omega.{arith}
-use borrow.Author.Rules.{rules}
 use Rattle.codec.proofs.ByteLaws.{number-parts}
 use Rattle.codec.proofs.four_at.Goals as goal
 

@@ -1,14 +1,11 @@
 -- `get_fields` meets its contract: the first i values are read, and the others stand from the place on.
-use Prim.Native.Nat.{◌+◌, ◌-◌, ◌≤◌}
-use mathlib.Core.Path.{◌≡◌, sym, subst, ◌∙◌}
-use mathlib.Core.List.{◌++◌}
-use lib.ListN.{length, take, drop, length-set}
+use mathlib.Core.Path.{sym, subst, ◌∙◌}
+use lib.ListN.{length-set}
 use native.Mathlib.Numerals.{add-one}
 use Rattle.codec.proofs.ByteLaws.{all-bytes}
-use Rattle.codec.specs.Fields.{total, values_at, AllFit}
+use Rattle.codec.specs.Fields.{AllFit}
 use Rattle.codec.proofs.FieldLaws.{width-at, total-more, got-more, got-all, read_fits}
 use native.Mathlib.Omega.{arith}
-use borrow.Author.Rules.{rules}
 use Rattle.codec.proofs.get_fields.Goals as goal
 
 pub number_at-requires : goal.number_at-requires

@@ -1,14 +1,9 @@
 -- `get_fields` meets its contract: the first i values are read, and the others stand from the place on.
 use Prim.Native.Nat.{◌+◌, ◌-◌, ◌≤◌}
-use mathlib.Core.Path.{◌≡◌, sym, subst, ◌∙◌}
+use mathlib.Core.Path.{◌≡◌}
 use mathlib.Core.List.{◌++◌}
-use lib.ListN.{length, take, drop, length-set}
-use native.Mathlib.Numerals.{add-one}
-use Rattle.codec.proofs.ByteLaws.{all-bytes}
-use Rattle.codec.specs.Fields.{total, values_at, AllFit}
-use Rattle.codec.proofs.FieldLaws.{width-at, total-more, got-more, got-all, read_fits}
-use native.Mathlib.Omega.{arith}
-use borrow.Author.Rules.{rules}
+use lib.ListN.{length, take, drop}
+use Rattle.codec.specs.Fields.{total, values_at}
 use Rattle.codec.proofs.get_fields.Given as goal
 
 abbrev pub invariant-loop-i : goal.invariant-loop-i

@@ -1,12 +1,11 @@
 -- `put_bytes` meets its contract: with the bytes from i on put, the array is as asked.
-use Prim.Native.Nat.{◌+◌, ◌-◌, ◌≤◌}
-use mathlib.Core.Path.{◌≡◌, refl}
-use lib.ListN.{length, drop, length-set, drop_of_length-le}
-use lib.Seq.{sets, drop-cons}
+use Prim.Native.Nat.{◌≤◌}
+use mathlib.Core.Path.{refl}
+use lib.ListN.{length, length-set, drop_of_length-le}
+use lib.Seq.{drop-cons}
 use native.Mathlib.Nat.{add-zero, add-suc}
 use native.Mathlib.Numerals.{add-one}
 use native.Mathlib.Omega.{arith}
-use borrow.Author.Rules.{rules}
 use Rattle.codec.proofs.put_bytes.Goals as goal
 
 pub loop-i-init : goal.loop-i-init

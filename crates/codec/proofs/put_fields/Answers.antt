@@ -1,14 +1,11 @@
 -- `put_fields` meets its contract: with the values from i on put from the place on, the array is as asked.
-use Prim.Native.Nat.{◌+◌, ◌-◌, ◌≤◌}
 use mathlib.Core.Path.{◌≡◌, ◌∙◌}
 use mathlib.Core.List.{[]}
-use lib.ListN.{length, drop, drop_of_length-le}
-use lib.Seq.{sets}
+use lib.ListN.{drop, drop_of_length-le}
 use native.Mathlib.Numerals.{add-one}
-use Rattle.codec.specs.Fields.{total, entry_bytes}
+use Rattle.codec.specs.Fields.{entry_bytes}
 use Rattle.codec.proofs.FieldLaws.{width-at, total-more, put-more}
 use native.Mathlib.Omega.{arith}
-use borrow.Author.Rules.{rules}
 use Rattle.codec.proofs.put_fields.Goals as goal
 
 pub put_number-requires : goal.put_number-requires

@@ -1,14 +1,9 @@
 -- `put_fields` meets its contract: with the values from i on put from the place on, the array is as asked.
 use Prim.Native.Nat.{◌+◌, ◌-◌, ◌≤◌}
-use mathlib.Core.Path.{◌≡◌, ◌∙◌}
-use mathlib.Core.List.{[]}
-use lib.ListN.{length, drop, drop_of_length-le}
+use mathlib.Core.Path.{◌≡◌}
+use lib.ListN.{length, drop}
 use lib.Seq.{sets}
-use native.Mathlib.Numerals.{add-one}
 use Rattle.codec.specs.Fields.{total, entry_bytes}
-use Rattle.codec.proofs.FieldLaws.{width-at, total-more, put-more}
-use native.Mathlib.Omega.{arith}
-use borrow.Author.Rules.{rules}
 use Rattle.codec.proofs.put_fields.Given as goal
 
 abbrev pub invariant-loop-i : goal.invariant-loop-i

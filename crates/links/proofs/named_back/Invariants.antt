@@ -1,12 +1,6 @@
--- `named_back` meets its contract: the stations before b that the row names name a.
-use Prim.Native.Nat.{◌-◌, ◌≤◌}
-use mathlib.Core.Path.{◌≡◌, sym, ap₂, ◌∙◌}
-use mathlib.Core.Bool.{Bool, true, false, not, ◌&&◌, ◌||◌}
-use lib.ListN.{get_or}
-use native.Mathlib.Omega.{arith}
-use borrow.Author.Rules.{rules}
+-- The stations before b that the row names name a.
+use Rattle.std.proofs.Common.{◌≡◌, ◌≤◌, ◌-◌, true, not, ◌||◌, get_or}
 use Rattle.base.specs.Lists.{all_below}
-use Rattle.base.proofs.Loops.{all_none, all_more, all-ends, all-broken}
 use Rattle.model.specs.Calls.{bit}
 use Rattle.links.proofs.named_back.Given as goal
 

@@ -1,18 +1,17 @@
-use borrow.Author.Rules.{rules}
-use Rattle.links.proofs.row_in_range.Reads as reads
-use Rattle.links.proofs.masks.bit.Reads as bit-reads
-use Rattle.links.proofs.masks.mask_in_range.Reads as mask-in-range-reads
-use Rattle.links.proofs.named_back.Reads as named-back-reads
+-- `row_in_range` meets its contract: the first test that fails, or the last one.
+use Rattle.std.proofs.Common.{sym, ◌∙◌}
+use Rattle.base.proofs.Booleans.{was-true, was-false}
+use Rattle.links.specs.Links.{link_row_in_range}
 use Rattle.links.proofs.row_in_range.Goals as goal
 
--- src/lib.rt:47:9
 pub returns-then-not-mask_in_range : goal.returns-then-not-mask_in_range
-returns-then-not-mask_in_range c = ?
+unfolding link_row_in_range
+returns-then-not-mask_in_range c = simp (was-false _ _ c.mask_in_range.ensures c.if-not-mask_in_range.true)
 
--- src/lib.rt:50:9
 pub returns-then-bit : goal.returns-then-bit
-returns-then-bit c = ?
+unfolding link_row_in_range
+returns-then-bit c = simp (was-true _ _ c.mask_in_range.ensures c.if-not-mask_in_range.false, was-true _ _ c.bit.ensures c.if-bit.true)
 
--- src/lib.rt:41:1
 pub returns : goal.returns
-returns c = ?
+unfolding link_row_in_range
+returns c = simp (was-true _ _ c.mask_in_range.ensures c.if-not-mask_in_range.false, was-false _ _ c.bit.ensures c.if-bit.false) c.named_back.ensures

