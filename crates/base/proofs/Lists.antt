@@ -10,7 +10,7 @@ use native.Mathlib.Nat.{mul-suc}
 use lib.Dec.{eqb}
 use native.Mathlib.Omega.{arith}
 use borrow.Author.Tests.{eqb-true, eqb-false, eq-eqb, ne_eqb, not-true}
-use Rattle.base.specs.Choice.{if◌then◌else◌}
+use Rattle.std.specs.Prelude.{if◌then◌else◌}
 use Rattle.base.specs.Lists.{all_below, some_below, below, all_in, some_in, keep, is_empty, distinct}
 use Rattle.base.proofs.Booleans.{clash, both, neither, passes, negates, iff, choose, cases, Trichotomy, less, equal, more, trichotomy}
 

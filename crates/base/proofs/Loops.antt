@@ -10,7 +10,7 @@ use lib.Dec.{ltb, leb, eqb}
 use native.Mathlib.Numerals.{add-one}
 use native.Mathlib.Omega.{arith}
 use borrow.Author.Tests.{lt-ltb, le-ltb, ltb-true, ltb-false, eqb-true, eqb-false, lt-leb, leb-false, not-true}
-use Rattle.base.specs.Choice.{if◌then◌else◌}
+use Rattle.std.specs.Prelude.{if◌then◌else◌}
 use Rattle.base.specs.Lists.{all_below, below, all_in, some_in, keep, is_empty, tabulate, index_of, distinct, remove_at, removed}
 use Rattle.base.proofs.Booleans.{clash, passes, iff, choose, Trichotomy, less, equal, more, trichotomy}
 use Rattle.base.proofs.Lists.{all-below, all-below-at, empty-length, map-set, distinct_more}

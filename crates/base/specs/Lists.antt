@@ -1,7 +1,6 @@
 -- Tests over numbers and lists, and the lists that they leave.
-use Rattle.std.specs.Prelude.{ℕ, zero, suc, Bool, true, false, not, ◌&&◌, ◌||◌, List, [], ◌∷◌, ◌++◌, take, drop, eqb}
+use Rattle.std.specs.Prelude.{ℕ, zero, suc, Bool, true, false, not, ◌&&◌, ◌||◌, List, [], ◌∷◌, ◌++◌, take, drop, eqb, if◌then◌else◌}
 use Rattle.std.proofs.Math.Seq.{slice}
-use Rattle.base.specs.Choice.{if◌then◌else◌}
 
 -- Every number below n passes; some number below n passes.
 unfoldable pub all_below : ℕ → (ℕ → Bool) → Bool

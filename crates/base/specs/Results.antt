@@ -1,6 +1,5 @@
 -- How a call ends (01, "Numbers for calls turned down"): for calls, runs, scripts and the console.
-use Rattle.std.specs.Prelude.{ℕ, Bool, ◌&&◌, ltb}
-use Rattle.base.specs.Choice.{if◌then◌else◌}
+use Rattle.std.specs.Prelude.{ℕ, Bool, ◌&&◌, ltb, if◌then◌else◌}
 
 -- Turned down with a number, or accepted with what it gives.
 pub data Result (A : Type 0) : Type 0 where

@@ -1,6 +1,5 @@
 -- What the console's functions give: two numbers in one, the answer in the lower 32 bits and a count in the upper; or three.
-use Rattle.std.specs.Prelude.{ℕ, ◌+◌, ◌*◌, ◌/◌, ◌%◌, length, eqb}
-use Rattle.base.specs.Choice.{if◌then◌else◌}
+use Rattle.std.specs.Prelude.{ℕ, ◌+◌, ◌*◌, ◌/◌, ◌%◌, length, eqb, if◌then◌else◌}
 use Rattle.base.specs.Results.{Result, refused, accepted, mapped}
 use Rattle.label.specs.Label.{label, Outcome, took, gave}
 use Rattle.model.specs.Tally.{Tally}

@@ -1,7 +1,6 @@
 -- The parts of a network that a console shows in bytes, by their numbers: which number turns one down, how wide it is, and what stands in the
 -- memory's bytes for it.
-use Rattle.std.specs.Prelude.{ℕ, ◌+◌, ◌*◌, ◌||◌, List, leb, eqb}
-use Rattle.base.specs.Choice.{if◌then◌else◌}
+use Rattle.std.specs.Prelude.{ℕ, ◌+◌, ◌*◌, ◌||◌, List, leb, eqb, if◌then◌else◌}
 use Rattle.model.specs.Memory.{place}
 use Rattle.formats.specs.Formats.{label_wide, row_wide, record_wide, station_wide, packet_wide}
 use Rattle.formats.specs.Stored.{stored_label, stored_row, stored_record, stored_station, stored_packet}

@@ -1,8 +1,7 @@
 -- What a console shows of the network that stands in the bytes. It is turned down with 1 for memory out of range, 2 for a station not below n,
 -- 6 for a packet that is not there, and 12 for a lent array that is too short.
-use Rattle.std.specs.Prelude.{ℕ, Bool, not, ◌||◌, List, length, ltb, eqb}
+use Rattle.std.specs.Prelude.{ℕ, Bool, not, ◌||◌, List, length, ltb, eqb, if◌then◌else◌}
 use mir.Val.{bool_byte}
-use Rattle.base.specs.Choice.{if◌then◌else◌}
 use Rattle.base.specs.Results.{Result, accepted, refuse◌when◌otherwise◌}
 use Rattle.codec.specs.Bytes.{byte_at}
 use Rattle.model.specs.Memory.{Network, label_at, row_at, record_at, link_up, packet_at, memory_in_range}

@@ -1,7 +1,6 @@
 // What a console shows of the network that stands in the bytes. Each function tests the range; what it shows is written as the layout has it.
-ghost use Rattle.std.specs.Prelude.{◌≡◌, ◌≤◌, ◌<◌, length};
+ghost use Rattle.std.specs.Prelude.{◌≡◌, ◌≤◌, ◌<◌, length, if◌then◌else◌};
 ghost use Rattle.std.proofs.lemmas.List.Edits.{sets};
-ghost use Rattle.base.specs.Choice.{if◌then◌else◌};
 ghost use Rattle.base.specs.Results.{◌and_then◌};
 ghost use Rattle.codec.specs.Bytes.{byte_at, Puts};
 ghost use Rattle.model.specs.Memory.{air_limit};

@@ -1,6 +1,5 @@
 -- What a call changes at one station.
-use Rattle.std.specs.Prelude.{ℕ, ◌+◌, ◌≡◌, Bool, true, false, ◌&&◌, ◌||◌, List, eqb}
-use Rattle.base.specs.Choice.{if◌then◌else◌}
+use Rattle.std.specs.Prelude.{ℕ, ◌+◌, ◌≡◌, Bool, true, false, ◌&&◌, ◌||◌, List, eqb, if◌then◌else◌}
 use Rattle.model.specs.Memory.{Network, request}
 use Rattle.model.specs.Calls.{receive}
 use Rattle.network.specs.declared.RequestNumber.{RequestNumber}

@@ -1,6 +1,5 @@
 // What a call changes at one station: Up, Give up and Expire; Solicit, Lose, Duplicate, and the delivery of a request or a reply.
-ghost use Rattle.std.specs.Prelude.{◌≡◌, ◌≢◌, true, false, ◌+◌, ◌%◌, ◌<◌, eqb};
-ghost use Rattle.base.specs.Choice.{if◌then◌else◌};
+ghost use Rattle.std.specs.Prelude.{◌≡◌, ◌≢◌, true, false, ◌+◌, ◌%◌, ◌<◌, eqb, if◌then◌else◌};
 ghost use Rattle.base.specs.Numbers.{max_u32, max_u64};
 ghost use Rattle.model.specs.Calls.{count_on};
 ghost use Rattle.network.specs.View.{numbered};

@@ -1,6 +1,5 @@
 // Rows that lose a station: at Down a and b each lose the other, at an error its receiver loses its sender for the masked destinations.
-ghost use Rattle.std.specs.Prelude.{◌≡◌, ◌&&◌, ◌||◌, ◌+◌, ◌^◌, ◌<◌, eqb};
-ghost use Rattle.base.specs.Choice.{if◌then◌else◌};
+ghost use Rattle.std.specs.Prelude.{◌≡◌, ◌&&◌, ◌||◌, ◌+◌, ◌^◌, ◌<◌, eqb, if◌then◌else◌};
 ghost use Rattle.base.specs.Lists.{some_in};
 ghost use Rattle.model.specs.Memory.{without};
 ghost use Rattle.model.specs.Calls.{bit, empties, error_outcome};

@@ -10,7 +10,7 @@ use lib.Seq.{get_or-set_same}
 use lib.Dec.{leb, eqb}
 use native.Mathlib.Omega.{arith}
 use borrow.Author.Tests.{leb-false, eqb-true, eqb-false, eq-eqb, ne_eqb, not-true, not-false}
-use Rattle.base.specs.Choice.{if◌then◌else◌}
+use Rattle.std.specs.Prelude.{if◌then◌else◌}
 use Rattle.base.specs.Lists.{below, some_in, keep, is_empty, remove_at}
 use Rattle.base.proofs.Booleans.{clash, both, neither, choose, cases, Trichotomy, less, equal, more, trichotomy}
 use Rattle.base.proofs.Lists.{mem-at, mem-take, mem-drop}

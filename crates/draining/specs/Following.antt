@@ -1,6 +1,5 @@
 -- What follows on an answer where the air is drained.
-use Rattle.std.specs.Prelude.{ℕ, ◌≡◌}
-use Rattle.base.specs.Choice.{if◌then◌else◌}
+use Rattle.std.specs.Prelude.{ℕ, ◌≡◌, if◌then◌else◌}
 use Rattle.draining.specs.declared.Event.{Event}
 use Rattle.draining.specs.Draining.{loses_packet}
 

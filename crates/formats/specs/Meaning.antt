@@ -1,6 +1,5 @@
 -- Which bytes of a packet have a meaning. Of the other entries it is asked that flags are 0 or 1 (`flags_at`).
-use Rattle.std.specs.Prelude.{ℕ, Bool, true, ◌&&◌, List, ltb, eqb}
-use Rattle.base.specs.Choice.{if◌then◌else◌}
+use Rattle.std.specs.Prelude.{ℕ, Bool, true, ◌&&◌, List, ltb, eqb, if◌then◌else◌}
 use Rattle.label.specs.declared.Label.{Label}
 use Rattle.codec.specs.Fields.{widths, values_at}
 use Rattle.network.specs.declared.Packet.{Packet}

@@ -1,7 +1,6 @@
 // Packets in bytes, by their format.
-ghost use Rattle.std.specs.Prelude.{◌≡◌, ◌+◌, ◌≤◌, length};
+ghost use Rattle.std.specs.Prelude.{◌≡◌, ◌+◌, ◌≤◌, length, if◌then◌else◌};
 ghost use Rattle.std.proofs.lemmas.List.Edits.{sets};
-ghost use Rattle.base.specs.Choice.{if◌then◌else◌};
 ghost use Rattle.codec.specs.Fields.{widths, values, AllFit, Fits};
 ghost use Rattle.model.specs.Memory.{zero_packet, air_limit};
 ghost use Rattle.network.specs.View.{body_of, packet_of, air_of};

@@ -1,6 +1,5 @@
 -- Labels, their range, their order and New label (01, "Labels"; 003, Definitions 1 and 4 to 6, Algorithm 1).
-use Rattle.std.specs.Prelude.{ℕ, ◌+◌, ◌<◌, ◌≡◌, ◌↔◌, Bool, true, false, ◌&&◌, ◌||◌, not, ltb, eqb}
-use Rattle.base.specs.Choice.{if◌then◌else◌}
+use Rattle.std.specs.Prelude.{ℕ, ◌+◌, ◌<◌, ◌≡◌, ◌↔◌, Bool, true, false, ◌&&◌, ◌||◌, not, ltb, eqb, if◌then◌else◌}
 use Rattle.base.specs.Numbers.{max_u32}
 use Rattle.fraction.specs.declared.Fraction.{Fraction}
 use Rattle.fraction.specs.Fraction.{fraction, is_smaller, Between, Simplest, simplest}

@@ -1,7 +1,6 @@
 -- Which bytes have a meaning (01: "bytes that the layout gives no meaning"). Places past a count, of stations from n up, of a station's record
 -- for itself and of links with the higher station first are not asked for.
-use Rattle.std.specs.Prelude.{ℕ, ◌+◌, ◌*◌, Bool, not, ◌&&◌, ◌||◌, List, length, ltb, leb, eqb}
-use Rattle.base.specs.Choice.{if◌then◌else◌}
+use Rattle.std.specs.Prelude.{ℕ, ◌+◌, ◌*◌, Bool, not, ◌&&◌, ◌||◌, List, length, ltb, leb, eqb, if◌then◌else◌}
 use Rattle.base.specs.Lists.{all_below}
 use Rattle.codec.specs.Bytes.{byte_at}
 use Rattle.codec.specs.Fields.{flags_at}

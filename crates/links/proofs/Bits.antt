@@ -13,7 +13,7 @@ use native.Mathlib.Nat.{one-mul, add_comm, mod-lt, mul-div_cancel, mul-mod_left,
 use native.Mathlib.Numerals.{one-add}
 use native.Mathlib.Omega.{arith}
 use borrow.Author.Tests.{eqb-true, eqb-false, ltb-true, ltb-false}
-use Rattle.base.specs.Choice.{if◌then◌else◌}
+use Rattle.std.specs.Prelude.{if◌then◌else◌}
 use Rattle.base.specs.Lists.{below}
 use Rattle.model.specs.Calls.{bit}
 

@@ -10,7 +10,7 @@ use lib.Dec.{eqb, ltb}
 use lib.Pow.{pow-lt, pow_pos}
 use native.Mathlib.Omega.{arith}
 use borrow.Author.Tests.{lt-ltb, le-ltb, ltb-true, ltb-false, eqb-true, eqb-false, eq-eqb, ne_eqb, not-true}
-use Rattle.base.specs.Choice.{if◌then◌else◌}
+use Rattle.std.specs.Prelude.{if◌then◌else◌}
 use Rattle.base.specs.Lists.{all_below, below, tabulate}
 use Rattle.base.proofs.Booleans.{both, passes, negates, iff, clash, Trichotomy, less, equal, more, trichotomy}
 use Rattle.base.proofs.Lists.{all-below, all-below-at, set-either}

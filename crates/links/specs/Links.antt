@@ -1,6 +1,5 @@
 -- Links as rows of bits (02, F-7): "links are to be held as one 16-bit row for each station, ascending stations from the lowest bit".
-use Rattle.std.specs.Prelude.{ℕ, ◌/◌, ◌%◌, ◌^◌, ◌<◌, ◌≤◌, ◌≡◌, ◌≢◌, Bool, true, not, ◌&&◌, ◌||◌, List, get_or, set, ltb}
-use Rattle.base.specs.Choice.{if◌then◌else◌}
+use Rattle.std.specs.Prelude.{ℕ, ◌/◌, ◌%◌, ◌^◌, ◌<◌, ◌≤◌, ◌≡◌, ◌≢◌, Bool, true, not, ◌&&◌, ◌||◌, List, get_or, set, ltb, if◌then◌else◌}
 use Rattle.base.specs.Lists.{all_below, below, tabulate}
 use Rattle.model.specs.Memory.{Network, pair_place, fresh}
 use Rattle.model.specs.Calls.{bit}

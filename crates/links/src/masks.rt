@@ -1,6 +1,5 @@
 // Masks of stations: bit t is station t.
-ghost use Rattle.std.specs.Prelude.{◌≡◌, ℕ, ◌+◌, ◌^◌, ◌<◌, ◌≤◌, ltb, eqb};
-ghost use Rattle.base.specs.Choice.{if◌then◌else◌};
+ghost use Rattle.std.specs.Prelude.{◌≡◌, ℕ, ◌+◌, ◌^◌, ◌<◌, ◌≤◌, ltb, eqb, if◌then◌else◌};
 ghost use Rattle.model.specs.Calls.{bit};
 
 // Whether station t is in the mask.

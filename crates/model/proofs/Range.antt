@@ -8,7 +8,7 @@ use lib.ListN.{length}
 use lib.Dec.{ltb, leb, eqb}
 use native.Mathlib.Omega.{arith}
 use borrow.Author.Tests.{ltb-true, leb-true, eqb-true, eqb-false, not-true, lt-ltb, le-leb, eq-eqb, ne_eqb}
-use Rattle.base.specs.Choice.{if◌then◌else◌}
+use Rattle.std.specs.Prelude.{if◌then◌else◌}
 use Rattle.base.specs.Lists.{all_below, all_in, is_empty, distinct}
 use Rattle.base.proofs.Booleans.{clash, both, passes, negates, choose}
 use Rattle.base.proofs.Lists.{all-below, all-below-at, all_in-each, all-in-at, empty-nil}

@@ -13,7 +13,7 @@ use native.Mathlib.Nat.{zero-div}
 use native.Mathlib.Numerals.{add-one}
 use native.Mathlib.Omega.{arith}
 use borrow.Author.Tests.{lt-ltb, le-ltb, ltb-true, eqb-true, eqb-false, not-true}
-use Rattle.base.specs.Choice.{if◌then◌else◌}
+use Rattle.std.specs.Prelude.{if◌then◌else◌}
 use Rattle.base.specs.Lists.{all_below, some_below, some_in, keep, is_empty, index_of, distinct}
 use Rattle.base.proofs.Booleans.{neither, choose, cases, Trichotomy, less, equal, more, trichotomy}
 use Rattle.base.proofs.Lists.{all-below-at, none-in-at, all-kept, keep-mem, mem-tail, length-tail, set-either}

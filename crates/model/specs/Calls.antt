@@ -1,6 +1,5 @@
 -- What each call does (01, "What each call does" and "Numbers for calls turned down").
-use Rattle.std.specs.Prelude.{ℕ, zero, suc, ◌+◌, ◌-◌, ◌^◌, ◌/◌, ◌%◌, Bool, true, false, not, ◌&&◌, ◌||◌, List, [], ◌∷◌, ◌++◌, map, length, set, ltb, leb, eqb}
-use Rattle.base.specs.Choice.{if◌then◌else◌}
+use Rattle.std.specs.Prelude.{ℕ, zero, suc, ◌+◌, ◌-◌, ◌^◌, ◌/◌, ◌%◌, Bool, true, false, not, ◌&&◌, ◌||◌, List, [], ◌∷◌, ◌++◌, map, length, set, ltb, leb, eqb, if◌then◌else◌}
 use Rattle.base.specs.Numbers.{max_u32, max_u64}
 use Rattle.base.specs.Lists.{some_below, below, some_in, keep, is_empty, remove_at}
 use Rattle.base.specs.Results.{Result, refused, accepted, refuse◌when◌otherwise◌}

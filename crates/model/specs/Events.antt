@@ -1,6 +1,5 @@
 -- Events of a script (01, "Scripts and the printout").
-use Rattle.std.specs.Prelude.{ℕ, ◌+◌, ◌*◌, Bool, not, ◌&&◌, ◌||◌, List, [], ◌∷◌, length, get_or, ltb, eqb}
-use Rattle.base.specs.Choice.{if◌then◌else◌}
+use Rattle.std.specs.Prelude.{ℕ, ◌+◌, ◌*◌, Bool, not, ◌&&◌, ◌||◌, List, [], ◌∷◌, length, get_or, ltb, eqb, if◌then◌else◌}
 use Rattle.base.specs.Lists.{all_below, tabulate}
 use Rattle.base.specs.Results.{Result, accepted, refuse◌when◌otherwise◌}
 use Rattle.label.specs.Label.{Splitting, split}

@@ -1,7 +1,6 @@
 -- The network's memory (01, "The network's memory"). Lists stand for its tables, and for what has a count: rows and the air.
-use Rattle.std.specs.Prelude.{ℕ, zero, suc, ◌+◌, ◌*◌, ◌^◌, min, max, ◌≡◌, Bool, false, not, ◌&&◌, length, get_or, set, replicate, ltb, leb, eqb}
+use Rattle.std.specs.Prelude.{ℕ, zero, suc, ◌+◌, ◌*◌, ◌^◌, min, max, ◌≡◌, Bool, false, not, ◌&&◌, length, get_or, set, replicate, ltb, leb, eqb, if◌then◌else◌}
 use mathlib.Core.List.{List, [], ◌∷◌, ◌++◌, map, tail}
-use Rattle.base.specs.Choice.{if◌then◌else◌}
 use Rattle.base.specs.Lists.{all_below, all_in, some_in, keep, is_empty, distinct}
 use Rattle.label.specs.declared.Label.{Label}
 use Rattle.label.specs.Label.{label, unassigned, in_range, above}

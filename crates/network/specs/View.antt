@@ -2,8 +2,7 @@
 -- fields that a packet's kind doesn't use. They have no part in the reading. What the tables hold for stations from n up is read, as the
 -- model's tables have it, and no test asks for it. A count over its limit is read as a list that long, and a kind other than 1 to 3 as the
 -- body `other`, so that memory out of range is read as a network out of range.
-use Rattle.std.specs.Prelude.{ℕ, ◌≡◌, false, List, map, length, get_or, eqb}
-use Rattle.base.specs.Choice.{if◌then◌else◌}
+use Rattle.std.specs.Prelude.{ℕ, ◌≡◌, false, List, map, length, get_or, eqb, if◌then◌else◌}
 use Rattle.base.specs.Lists.{tabulate}
 use Rattle.label.specs.declared.Label.{Label}
 use Rattle.label.specs.Label.{label}

@@ -1,6 +1,5 @@
 -- A preview by value, read as the model's.
-use Rattle.std.specs.Prelude.{ℕ, eqb}
-use Rattle.base.specs.Choice.{if◌then◌else◌}
+use Rattle.std.specs.Prelude.{ℕ, eqb, if◌then◌else◌}
 use Rattle.model.specs.Preview as model
 use Rattle.model.specs.Preview.{shows, number_shown}
 use Rattle.rows.specs.View.{row_of}

@@ -1,6 +1,5 @@
 -- What the tests of an event say of the model's step.
-use Rattle.std.specs.Prelude.{ℕ, ◌<◌, ◌≡◌, ◌≢◌, Bool, true, false, ◌&&◌, ◌||◌, ltb, leb, length}
-use Rattle.base.specs.Choice.{if◌then◌else◌}
+use Rattle.std.specs.Prelude.{ℕ, ◌<◌, ◌≡◌, ◌≢◌, Bool, true, false, ◌&&◌, ◌||◌, ltb, leb, length, if◌then◌else◌}
 use Rattle.base.specs.Numbers.{max_u32, max_u64}
 use Rattle.base.specs.Results.{refused}
 use Rattle.model.specs.Memory.{Network, link_up, request_number_at, is_active, memory_in_range}

@@ -1,8 +1,7 @@
 // Which number turns an event down (01, "Numbers for calls turned down").
 #![tactic(auto)]
 
-ghost use Rattle.std.specs.Prelude.{◌≡◌, ◌&&◌, ◌||◌, ltb, leb, eqb};
-ghost use Rattle.base.specs.Choice.{if◌then◌else◌};
+ghost use Rattle.std.specs.Prelude.{◌≡◌, ◌&&◌, ◌||◌, ltb, leb, eqb, if◌then◌else◌};
 ghost use Rattle.base.specs.Numbers.{max_u32, max_u64};
 ghost use Rattle.model.specs.Memory.{Network};
 ghost use Rattle.model.specs.Events.{event_of};

@@ -6,7 +6,6 @@ use lib.ListN.{length, get_or-eq_default}
 use native.Mathlib.Omega.{arith}
 use denote.Laws.{Is}
 use denote.Struct.Laws.{vals}
-use Rattle.base.proofs.Lists.{unmapped}
 use Rattle.model.specs.Memory.{row_limit}
 use Rattle.rows.specs.declared.Row.{Row}
 use Rattle.rows.specs.View.{zero_row, entry_of}

@@ -7,7 +7,7 @@ use lib.ListN.{length, get_or}
 use lib.Dec.{ltb, leb, eqb}
 use native.Mathlib.Omega.{arith}
 use borrow.Author.Tests.{ltb-true, ltb-false, le-ltb, leb-true, le-leb, eq-eqb, eqb-true, not-true}
-use Rattle.base.specs.Choice.{if◌then◌else◌}
+use Rattle.std.specs.Prelude.{if◌then◌else◌}
 use Rattle.base.specs.Lists.{some_in, keep, is_empty, index_of, distinct, remove_at}
 use Rattle.base.proofs.Booleans.{clash, both, neither, iff, choose}
 use Rattle.base.proofs.Lists.{none_in, none-in-at, all-kept, empty-length, distinct-rest}

@@ -1,6 +1,5 @@
 -- The entries that leave a row with a station.
-use Rattle.std.specs.Prelude.{ℕ, Bool}
-use Rattle.base.specs.Choice.{if◌then◌else◌}
+use Rattle.std.specs.Prelude.{ℕ, Bool, if◌then◌else◌}
 use Rattle.model.specs.Memory.{Successor, names}
 use Rattle.model.specs.Calls.{withdrawn}
 

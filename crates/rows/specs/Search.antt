@@ -1,6 +1,5 @@
 -- The search for a station in a row (02, F-2).
-use Rattle.std.specs.Prelude.{ℕ, ◌+◌, length}
-use Rattle.base.specs.Choice.{if◌then◌else◌}
+use Rattle.std.specs.Prelude.{ℕ, ◌+◌, length, if◌then◌else◌}
 use Rattle.base.specs.Lists.{some_in, index_of}
 use Rattle.model.specs.Memory.{Row, names}
 

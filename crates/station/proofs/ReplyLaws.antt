@@ -4,7 +4,7 @@ use mathlib.Core.Path.{◌≡◌}
 use mathlib.Core.Bool.{Bool, true, false, not, ◌&&◌, ◌||◌, and-true, and-false}
 use lib.Seq.{set-get_or}
 use lib.Dec.{eqb}
-use Rattle.base.specs.Choice.{if◌then◌else◌}
+use Rattle.std.specs.Prelude.{if◌then◌else◌}
 use Rattle.label.specs.declared.Label.{Label}
 use Rattle.label.specs.Label.{Outcome, new_label}
 use Rattle.model.specs.Memory as model

@@ -1,6 +1,5 @@
 -- What the receiver of a request or a reply does, as a change of the model's network.
-use Rattle.std.specs.Prelude.{ℕ, ◌<◌, ◌≡◌, Bool, List, [], ◌∷◌, map, length, eqb}
-use Rattle.base.specs.Choice.{if◌then◌else◌}
+use Rattle.std.specs.Prelude.{ℕ, ◌<◌, ◌≡◌, Bool, List, [], ◌∷◌, map, length, eqb, if◌then◌else◌}
 use Rattle.base.specs.Lists.{below}
 use Rattle.model.specs.Memory as model
 use Rattle.model.specs.Memory.{Network, link_in, label_at, row_at, record_at, is_active, set_label, set_row, set_record, set_active}

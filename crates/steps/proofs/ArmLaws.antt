@@ -9,7 +9,7 @@ use lib.Seq.{set-get_or}
 use lib.Dec.{ltb, eqb}
 use native.Mathlib.Omega.{arith}
 use borrow.Author.Tests.{eqb-true, ne_eqb}
-use Rattle.base.specs.Choice.{if◌then◌else◌}
+use Rattle.std.specs.Prelude.{if◌then◌else◌}
 use Rattle.base.specs.Results.{accepted}
 use Rattle.base.proofs.Lists.{map-set}
 use Rattle.base.specs.Lists.{tabulate}

@@ -8,7 +8,7 @@ use lib.ListN.{get_or, set}
 use lib.Seq.{get_or-set_other}
 use native.Mathlib.Numerals.{add-one}
 use native.Mathlib.Omega.{arith}
-use Rattle.base.specs.Choice.{if◌then◌else◌}
+use Rattle.std.specs.Prelude.{if◌then◌else◌}
 use Rattle.base.specs.Lists.{some_below, some_in}
 use Rattle.base.proofs.Booleans.{neither}
 use Rattle.base.proofs.Lists.{map-set}

@@ -10,7 +10,7 @@ use lib.Dec.{ltb, leb, eqb}
 use native.Mathlib.Nat.{add-zero}
 use native.Mathlib.Omega.{arith}
 use borrow.Author.Tests.{eq-eqb}
-use Rattle.base.specs.Choice.{if◌then◌else◌}
+use Rattle.std.specs.Prelude.{if◌then◌else◌}
 use Rattle.base.specs.Lists.{remove_at}
 use Rattle.base.specs.Numbers.{max_u64}
 use Rattle.base.proofs.Lists.{empty-nil, empty-length}

@@ -7,7 +7,7 @@ use lib.ListN.{length, get_or, set, length-map, length-set}
 use lib.Seq.{sets}
 use native.Mathlib.Omega.{arith}
 use borrow.Author.Tests.{ltb-true, ltb-false}
-use Rattle.base.specs.Choice.{if◌then◌else◌}
+use Rattle.std.specs.Prelude.{if◌then◌else◌}
 use Rattle.base.specs.Lists.{tabulate}
 use Rattle.base.proofs.Booleans.{clash, Trichotomy, less, equal, more, trichotomy}
 use Rattle.base.proofs.Loops.{tabulate-length, tabulate-more}

@@ -1,6 +1,5 @@
 -- The packets that stay in the air where rows are cut.
-use Rattle.std.specs.Prelude.{ℕ, List, eqb}
-use Rattle.base.specs.Choice.{if◌then◌else◌}
+use Rattle.std.specs.Prelude.{ℕ, List, eqb, if◌then◌else◌}
 use Rattle.base.specs.Lists.{remove_at}
 use Rattle.model.specs.Memory.{Packet}
 use Rattle.model.specs.Calls.{drop_between}

@@ -1,6 +1,5 @@
 -- Where a run takes its events from.
-use Rattle.std.specs.Prelude.{ℕ, ◌+◌, ◌*◌, ◌≡◌, Bool, true, false, List, get_or, ltb}
-use Rattle.base.specs.Choice.{if◌then◌else◌}
+use Rattle.std.specs.Prelude.{ℕ, ◌+◌, ◌*◌, ◌≡◌, Bool, true, false, List, get_or, ltb, if◌then◌else◌}
 use Rattle.draining.specs.declared.Event.{Event}
 use Rattle.draining.specs.Following.{Follows}
 use Rattle.telling.specs.Lines.{packed, Fits}

@@ -1,6 +1,5 @@
 // The packets that stay in the air, and how many.
-ghost use Rattle.std.specs.Prelude.{◌≡◌, ◌≢◌, true, ◌++◌, ◌+◌, ◌-◌, ◌<◌, ◌≤◌, length};
-ghost use Rattle.base.specs.Choice.{if◌then◌else◌};
+ghost use Rattle.std.specs.Prelude.{◌≡◌, ◌≢◌, true, ◌++◌, ◌+◌, ◌-◌, ◌<◌, ◌≤◌, length, if◌then◌else◌};
 ghost use Rattle.model.specs.Memory.{air_limit};
 ghost use Rattle.model.specs.Calls.{drop_between};
 ghost use Rattle.network.specs.View.{packets_of};

@@ -1,7 +1,6 @@
 -- The printout's bytes (01, "Scripts and the printout").
-use Rattle.std.specs.Prelude.{ℕ, zero, suc, ◌+◌, ◌/◌, ◌%◌, ltb}
+use Rattle.std.specs.Prelude.{ℕ, zero, suc, ◌+◌, ◌/◌, ◌%◌, ltb, if◌then◌else◌}
 use mathlib.Core.List.{List, [], ◌∷◌, ◌++◌, flat_map}
-use Rattle.base.specs.Choice.{if◌then◌else◌}
 use Rattle.model.specs.Memory.{Network}
 use Rattle.model.specs.Printout.{Line, LabelLine, event_lines, route_lines}
 

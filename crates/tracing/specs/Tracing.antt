@@ -1,6 +1,5 @@
 -- What the tracer's walk tells.
-use Rattle.std.specs.Prelude.{ℕ, ◌+◌, ◌-◌, ◌<◌, ◌≡◌, get_or, eqb}
-use Rattle.base.specs.Choice.{if◌then◌else◌}
+use Rattle.std.specs.Prelude.{ℕ, ◌+◌, ◌-◌, ◌<◌, ◌≡◌, get_or, eqb, if◌then◌else◌}
 use Rattle.model.specs.Memory.{Network}
 use Rattle.model.specs.Calls.{Traced, traced, hop_limit, follow}
 use Rattle.rows.specs.declared.Row.{Row}

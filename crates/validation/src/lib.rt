@@ -1,9 +1,8 @@
 // Tests of what a caller hands in that need no memory: n, start and the air limit, stations, the number of events, and what is an event.
 #![tactic(auto)]
 
-ghost use Rattle.std.specs.Prelude.{◌≡◌, ◌||◌, ◌*◌, ◌≤◌, min, length, leb, eqb};
+ghost use Rattle.std.specs.Prelude.{◌≡◌, ◌||◌, ◌*◌, ◌≤◌, min, length, leb, eqb, if◌then◌else◌};
 ghost use Rattle.model.specs.Memory.{size_in_range};
-ghost use Rattle.base.specs.Choice.{if◌then◌else◌};
 ghost use Rattle.model.specs.Calls.{not_opening, not_limit};
 ghost use Rattle.model.specs.Events.{not_event, not_events, all_events};
 

@@ -1,6 +1,5 @@
 -- `turn_after` meets its contract: Lose after an answer for which packet 0 is lost, else Deliver.
 use mathlib.Core.Path.{sym, ◌∙◌}
-use borrow.Author.Rules.{rules}
 use Rattle.draining.proofs.Following.{follows-loss, follows-delivery}
 use Rattle.draining.proofs.turn_after.Goals as goal
 

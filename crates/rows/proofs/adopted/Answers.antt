@@ -1,7 +1,6 @@
 -- `adopted` meets its contract: the entries under the new label, and then the entry.
 use mathlib.Core.Path.{ap, ◌∙◌}
 use native.Mathlib.Omega.{arith}
-use borrow.Author.Rules.{rules}
 use Rattle.model.specs.Memory.{put}
 use Rattle.rows.specs.View.{successor_of}
 use Rattle.rows.proofs.RowLaws.{row-length, under-short}

@@ -1,6 +1,5 @@
 -- `empty_row` meets its contract.
 use mathlib.Core.Path.{refl}
-use borrow.Author.Rules.{rules}
 use Rattle.base.specs.Lists.{tabulate}
 use Rattle.rows.specs.View.{row_of}
 use Rattle.rows.proofs.empty_row.Goals as goal

@@ -1,6 +1,5 @@
 -- `entry` meets its contract.
 use mathlib.Core.Path.{refl}
-use borrow.Author.Rules.{rules}
 use Rattle.rows.specs.View.{entry_of}
 use Rattle.rows.proofs.entry.Goals as goal
 

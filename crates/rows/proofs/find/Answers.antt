@@ -1,9 +1,6 @@
 -- `find` meets its contract: the search so far, turn by turn.
-use Prim.Native.Nat.{◌-◌, ◌≤◌}
 use native.Mathlib.Omega.{arith}
-use borrow.Author.Rules.{rules}
-use Rattle.base.proofs.Booleans.{cases}
-use Rattle.rows.proofs.SearchLaws.{Search, search-none, search-more, search-hit, search-place, search-looked}
+use Rattle.rows.proofs.SearchLaws.{search-none, search-more, search-hit, search-place, search-looked}
 use Rattle.rows.proofs.find.Goals as goal
 use Rattle.rows.proofs.find.Goals.{then-station-j, else-station-j}
 
@@ -17,7 +14,7 @@ pub loop-looked-preserved : goal.loop-looked-preserved
 loop-looked-preserved c =
     let so_far = c.loop-looked.invariant.1 in
     elim c.if-station-j.branch [
-        then-station-j w ↦ (omega arith, search-hit so_far (omega arith) w.place-is w.if-station-j.true)
+      | then-station-j w ↦ (omega arith, search-hit so_far (omega arith) w.place-is w.if-station-j.true)
       | else-station-j w ↦ (omega arith, search-more so_far (omega arith) w.place-is w.if-station-j.false)
     ]
 

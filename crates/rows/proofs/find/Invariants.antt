@@ -1,9 +1,6 @@
 -- `find` meets its contract: the search so far, turn by turn.
 use Prim.Native.Nat.{◌-◌, ◌≤◌}
-use native.Mathlib.Omega.{arith}
-use borrow.Author.Rules.{rules}
-use Rattle.base.proofs.Booleans.{cases}
-use Rattle.rows.proofs.SearchLaws.{Search, search-none, search-more, search-hit, search-place, search-looked}
+use Rattle.rows.proofs.SearchLaws.{Search}
 use Rattle.rows.proofs.find.Given as goal
 
 abbrev pub invariant-loop-looked : goal.invariant-loop-looked

@@ -2,7 +2,6 @@
 use mathlib.Core.Path.{sym, ◌∙◌}
 use mathlib.Core.Bool.{true, false}
 use native.Mathlib.Omega.{arith}
-use borrow.Author.Rules.{rules}
 use Rattle.rows.specs.View.{entry_of, row_of}
 use Rattle.rows.proofs.RowLaws.{row-length}
 use Rattle.rows.proofs.LeavingLaws.{leaving-none, leaving-names, leaving-place}

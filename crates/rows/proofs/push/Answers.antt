@@ -1,5 +1,4 @@
 -- `push` meets its contract: the entry is written at the count, and counted.
-use borrow.Author.Rules.{rules}
 use Rattle.rows.specs.View.{row_of, entry_of}
 use Rattle.rows.proofs.RowLaws.{row-push}
 use Rattle.rows.proofs.push.Goals as goal

@@ -1,11 +1,9 @@
 -- `remove_at` meets its contract: at place k the entries after the place have moved up as far as k.
-use Prim.Native.Nat.{◌-◌, ◌≤◌}
 use mathlib.Core.Path.{◌≡◌, refl, ap, ◌∙◌}
 use native.Mathlib.Omega.{arith}
-use borrow.Author.Rules.{rules}
 use Rattle.base.specs.Lists.{tabulate}
 use Rattle.rows.specs.View.{successor_of, entry_of, row_of}
-use Rattle.rows.proofs.RowLaws.{MovedUp, moved_none, moved_more, moved_all}
+use Rattle.rows.proofs.RowLaws.{moved_none, moved_more, moved_all}
 use Rattle.rows.proofs.remove_at.Goals as goal
 
 pub loop-k-init : goal.loop-k-init

@@ -1,11 +1,8 @@
 -- `remove_at` meets its contract: at place k the entries after the place have moved up as far as k.
 use Prim.Native.Nat.{◌-◌, ◌≤◌}
-use mathlib.Core.Path.{◌≡◌, refl, ap, ◌∙◌}
-use native.Mathlib.Omega.{arith}
-use borrow.Author.Rules.{rules}
-use Rattle.base.specs.Lists.{tabulate}
-use Rattle.rows.specs.View.{successor_of, entry_of, row_of}
-use Rattle.rows.proofs.RowLaws.{MovedUp, moved_none, moved_more, moved_all}
+use mathlib.Core.Path.{◌≡◌}
+use Rattle.rows.specs.View.{entry_of}
+use Rattle.rows.proofs.RowLaws.{MovedUp}
 use Rattle.rows.proofs.remove_at.Given as goal
 
 abbrev pub invariant-loop-k : goal.invariant-loop-k

@@ -1,10 +1,7 @@
 -- `under` meets its contract: after k turns the new row has those of the first k entries whose label g is above.
-use Prim.Native.Nat.{◌-◌, ◌≤◌}
 use mathlib.Core.Path.{◌≡◌, refl, sym, ap, ◌∙◌}
 use native.Mathlib.Omega.{arith}
-use borrow.Author.Rules.{rules}
 use Rattle.base.specs.Lists.{keep, tabulate}
-use Rattle.base.proofs.Booleans.{cases}
 use Rattle.base.proofs.Loops.{tabulate-length, keep-yes, keep-no}
 use Rattle.label.specs.Label.{above}
 use Rattle.model.specs.Memory as model
@@ -32,16 +29,16 @@ loop-k-preserved c =
     let read = c.entry-e.ensures in
     let above-e = c.is_above.ensures ∙ ap (λ (x : model.Successor). above args.g x.label) read in
     elim c.if-is_above.branch [
-        then-is_above w ↦ (
-          omega arith,
-          ap row_of w.next-is ∙ w.push-next.ensures ∙ rw (read, at.invariant.1)
-              (sym (keep-yes (λ (x : model.Successor). above args.g x.label) at.k (entry_of args.row) (sym above-e ∙ w.if-is_above.true))),
-        )
+      | then-is_above w ↦ (
+        omega arith,
+        ap row_of w.next-is ∙ w.push-next.ensures ∙ rw (read, at.invariant.1)
+            (sym (keep-yes (λ (x : model.Successor). above args.g x.label) at.k (entry_of args.row) (sym above-e ∙ w.if-is_above.true))),
+      )
       | else-is_above w ↦ (
-          omega arith,
-          ap row_of w.next-is ∙ at.invariant.1
-              ∙ sym (keep-no (λ (x : model.Successor). above args.g x.label) at.k (entry_of args.row) (sym above-e ∙ w.if-is_above.false)),
-        )
+        omega arith,
+        ap row_of w.next-is ∙ at.invariant.1
+            ∙ sym (keep-no (λ (x : model.Successor). above args.g x.label) at.k (entry_of args.row) (sym above-e ∙ w.if-is_above.false)),
+      )
     ]
 
 pub returns : goal.returns

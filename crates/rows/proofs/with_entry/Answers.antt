@@ -2,7 +2,6 @@
 use mathlib.Core.Path.{refl}
 use native.Mathlib.Omega.{arith}
 use lib.Seq.{get_or-set_same, get_or-set_other}
-use borrow.Author.Rules.{rules}
 use Rattle.rows.specs.View.{entry_of}
 use Rattle.rows.proofs.Bounds.{row-lengths}
 use Rattle.rows.proofs.with_entry.Goals as goal

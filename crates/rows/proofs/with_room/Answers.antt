@@ -1,7 +1,6 @@
 -- `with_room` meets its contract: a row of fewer than four entries stays, a full one leaves its first.
 use mathlib.Core.Path.{sym, ◌∙◌}
 use native.Mathlib.Omega.{arith}
-use borrow.Author.Rules.{rules}
 use Rattle.base.proofs.Loops.{remove_at-first}
 use Rattle.model.proofs.Rows.{room-same, room-full}
 use Rattle.rows.specs.View.{row_of}

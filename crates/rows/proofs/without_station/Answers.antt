@@ -1,7 +1,6 @@
 -- `without_station` meets its contract: the entry at the place told leaves, or none does.
 use mathlib.Core.Path.{sym, ap, ◌∙◌}
 use native.Mathlib.Omega.{arith}
-use borrow.Author.Rules.{rules}
 use Rattle.base.specs.Lists.{remove_at}
 use Rattle.base.proofs.Lists.{all-kept}
 use Rattle.base.proofs.Loops.{index-outside}

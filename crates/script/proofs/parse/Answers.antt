@@ -38,18 +38,27 @@ returns-then-open_refused c =
 
 pub slice_bounds-all_events-end : goal.slice_bounds-all_events-end
 unfolding event_count
-slice_bounds-all_events-end c = omega (arith, (let at-room : length ((let at-at-3 : List ℕ = (let at-at-2 : List ℕ = (let at-at_1 : List ℕ = c.args.script.now in at-at_1) in at-at-2) in at-at-3)) ≡ 11 + 3 * (let at-events : ℕ = c.number_at-events.result in at-events) = let w = sized-tell (event_count ((let at-at-3 : List ℕ = (let at-at-2 : List ℕ = (let at-at_1 : List ℕ = c.args.script.now in at-at_1) in at-at-2) in at-at-3))) (length ((let at-at-3 : List ℕ = (let at-at-2 : List ℕ = (let at-at_1 : List ℕ = c.args.script.now in at-at_1) in at-at-2) in at-at-3))) ((let at-sized : not_sized (event_count ((let at-at-2 : List ℕ = (let at-at_1 : List ℕ = c.args.script.now in at-at_1) in at-at-2))) (length ((let at-at-2 : List ℕ = (let at-at_1 : List ℕ = c.args.script.now in at-at_1) in at-at-2))) ≡ false = sym ((let at-counted : let script = (let at-at_1 : List ℕ = c.args.script.now in at-at_1) in c.not_sized.result ≡ not_sized (event_count script) (length script) = c.not_sized.ensures ∙ rw ((let at-count : c.number_at-events.result ≡ event_count ((let at-at_1 : List ℕ = c.args.script.now in at-at_1)) = c.number_at-events.ensures.0 in at-count)) in at-counted)) ∙ c.if-not_sized.false in at-sized)) in
-    omega (arith, w.1, (let at-events-is : (let at-events : ℕ = c.number_at-events.result in at-events) ≡ event_count ((let at-at-3 : List ℕ = (let at-at-2 : List ℕ = (let at-at_1 : List ℕ = c.args.script.now in at-at_1) in at-at-2) in at-at-3)) = (let at-count : c.number_at-events.result ≡ event_count ((let at-at_1 : List ℕ = c.args.script.now in at-at_1)) = c.number_at-events.ensures.0 in at-count) in at-events-is)) in at-room))
+slice_bounds-all_events-end c = omega (
+  arith,
+  (let at-room : length ((let at-at-3 : List ℕ = (let at-at-2 : List ℕ = (let at-at_1 : List ℕ = c.args.script.now in at-at_1) in at-at-2) in at-at-3)) ≡ 11 + 3 * (let at-events : ℕ = c.number_at-events.result in at-events) = let w = sized-tell (event_count ((let at-at-3 : List ℕ = (let at-at-2 : List ℕ = (let at-at_1 : List ℕ = c.args.script.now in at-at_1) in at-at-2) in at-at-3))) (length ((let at-at-3 : List ℕ = (let at-at-2 : List ℕ = (let at-at_1 : List ℕ = c.args.script.now in at-at_1) in at-at-2) in at-at-3))) ((let at-sized : not_sized (event_count ((let at-at-2 : List ℕ = (let at-at_1 : List ℕ = c.args.script.now in at-at_1) in at-at-2))) (length ((let at-at-2 : List ℕ = (let at-at_1 : List ℕ = c.args.script.now in at-at_1) in at-at-2))) ≡ false = sym ((let at-counted : let script = (let at-at_1 : List ℕ = c.args.script.now in at-at_1) in c.not_sized.result ≡ not_sized (event_count script) (length script) = c.not_sized.ensures ∙ rw ((let at-count : c.number_at-events.result ≡ event_count ((let at-at_1 : List ℕ = c.args.script.now in at-at_1)) = c.number_at-events.ensures.0 in at-count)) in at-counted)) ∙ c.if-not_sized.false in at-sized)) in
+      omega (arith, w.1, (let at-events-is : (let at-events : ℕ = c.number_at-events.result in at-events) ≡ event_count ((let at-at-3 : List ℕ = (let at-at-2 : List ℕ = (let at-at_1 : List ℕ = c.args.script.now in at-at_1) in at-at-2) in at-at-3)) = (let at-count : c.number_at-events.result ≡ event_count ((let at-at_1 : List ℕ = c.args.script.now in at-at_1)) = c.number_at-events.ensures.0 in at-count) in at-events-is)) in at-room),
+)
 
 pub slice_bounds-all_events-count-2 : goal.slice_bounds-all_events-count-2
 unfolding event_count
-slice_bounds-all_events-count-2 c = omega (arith, (let at-room : length ((let at-at-3 : List ℕ = (let at-at-2 : List ℕ = (let at-at_1 : List ℕ = c.args.script.now in at-at_1) in at-at-2) in at-at-3)) ≡ 11 + 3 * (let at-events : ℕ = c.number_at-events.result in at-events) = let w = sized-tell (event_count ((let at-at-3 : List ℕ = (let at-at-2 : List ℕ = (let at-at_1 : List ℕ = c.args.script.now in at-at_1) in at-at-2) in at-at-3))) (length ((let at-at-3 : List ℕ = (let at-at-2 : List ℕ = (let at-at_1 : List ℕ = c.args.script.now in at-at_1) in at-at-2) in at-at-3))) ((let at-sized : not_sized (event_count ((let at-at-2 : List ℕ = (let at-at_1 : List ℕ = c.args.script.now in at-at_1) in at-at-2))) (length ((let at-at-2 : List ℕ = (let at-at_1 : List ℕ = c.args.script.now in at-at_1) in at-at-2))) ≡ false = sym ((let at-counted : let script = (let at-at_1 : List ℕ = c.args.script.now in at-at_1) in c.not_sized.result ≡ not_sized (event_count script) (length script) = c.not_sized.ensures ∙ rw ((let at-count : c.number_at-events.result ≡ event_count ((let at-at_1 : List ℕ = c.args.script.now in at-at_1)) = c.number_at-events.ensures.0 in at-count)) in at-counted)) ∙ c.if-not_sized.false in at-sized)) in
-    omega (arith, w.1, (let at-events-is : (let at-events : ℕ = c.number_at-events.result in at-events) ≡ event_count ((let at-at-3 : List ℕ = (let at-at-2 : List ℕ = (let at-at_1 : List ℕ = c.args.script.now in at-at_1) in at-at-2) in at-at-3)) = (let at-count : c.number_at-events.result ≡ event_count ((let at-at_1 : List ℕ = c.args.script.now in at-at_1)) = c.number_at-events.ensures.0 in at-count) in at-events-is)) in at-room))
+slice_bounds-all_events-count-2 c = omega (
+  arith,
+  (let at-room : length ((let at-at-3 : List ℕ = (let at-at-2 : List ℕ = (let at-at_1 : List ℕ = c.args.script.now in at-at_1) in at-at-2) in at-at-3)) ≡ 11 + 3 * (let at-events : ℕ = c.number_at-events.result in at-events) = let w = sized-tell (event_count ((let at-at-3 : List ℕ = (let at-at-2 : List ℕ = (let at-at_1 : List ℕ = c.args.script.now in at-at_1) in at-at-2) in at-at-3))) (length ((let at-at-3 : List ℕ = (let at-at-2 : List ℕ = (let at-at_1 : List ℕ = c.args.script.now in at-at_1) in at-at-2) in at-at-3))) ((let at-sized : not_sized (event_count ((let at-at-2 : List ℕ = (let at-at_1 : List ℕ = c.args.script.now in at-at_1) in at-at-2))) (length ((let at-at-2 : List ℕ = (let at-at_1 : List ℕ = c.args.script.now in at-at_1) in at-at-2))) ≡ false = sym ((let at-counted : let script = (let at-at_1 : List ℕ = c.args.script.now in at-at_1) in c.not_sized.result ≡ not_sized (event_count script) (length script) = c.not_sized.ensures ∙ rw ((let at-count : c.number_at-events.result ≡ event_count ((let at-at_1 : List ℕ = c.args.script.now in at-at_1)) = c.number_at-events.ensures.0 in at-count)) in at-counted)) ∙ c.if-not_sized.false in at-sized)) in
+      omega (arith, w.1, (let at-events-is : (let at-events : ℕ = c.number_at-events.result in at-events) ≡ event_count ((let at-at-3 : List ℕ = (let at-at-2 : List ℕ = (let at-at_1 : List ℕ = c.args.script.now in at-at_1) in at-at-2) in at-at-3)) = (let at-count : c.number_at-events.result ≡ event_count ((let at-at_1 : List ℕ = c.args.script.now in at-at_1)) = c.number_at-events.ensures.0 in at-count) in at-events-is)) in at-room),
+)
 
 pub slice_bounds-all_events-start-2 : goal.slice_bounds-all_events-start-2
 unfolding event_count
-slice_bounds-all_events-start-2 c = omega (arith, (let at-room : length ((let at-at-3 : List ℕ = (let at-at-2 : List ℕ = (let at-at_1 : List ℕ = c.args.script.now in at-at_1) in at-at-2) in at-at-3)) ≡ 11 + 3 * (let at-events : ℕ = c.number_at-events.result in at-events) = let w = sized-tell (event_count ((let at-at-3 : List ℕ = (let at-at-2 : List ℕ = (let at-at_1 : List ℕ = c.args.script.now in at-at_1) in at-at-2) in at-at-3))) (length ((let at-at-3 : List ℕ = (let at-at-2 : List ℕ = (let at-at_1 : List ℕ = c.args.script.now in at-at_1) in at-at-2) in at-at-3))) ((let at-sized : not_sized (event_count ((let at-at-2 : List ℕ = (let at-at_1 : List ℕ = c.args.script.now in at-at_1) in at-at-2))) (length ((let at-at-2 : List ℕ = (let at-at_1 : List ℕ = c.args.script.now in at-at_1) in at-at-2))) ≡ false = sym ((let at-counted : let script = (let at-at_1 : List ℕ = c.args.script.now in at-at_1) in c.not_sized.result ≡ not_sized (event_count script) (length script) = c.not_sized.ensures ∙ rw ((let at-count : c.number_at-events.result ≡ event_count ((let at-at_1 : List ℕ = c.args.script.now in at-at_1)) = c.number_at-events.ensures.0 in at-count)) in at-counted)) ∙ c.if-not_sized.false in at-sized)) in
-    omega (arith, w.1, (let at-events-is : (let at-events : ℕ = c.number_at-events.result in at-events) ≡ event_count ((let at-at-3 : List ℕ = (let at-at-2 : List ℕ = (let at-at_1 : List ℕ = c.args.script.now in at-at_1) in at-at-2) in at-at-3)) = (let at-count : c.number_at-events.result ≡ event_count ((let at-at_1 : List ℕ = c.args.script.now in at-at_1)) = c.number_at-events.ensures.0 in at-count) in at-events-is)) in at-room))
+slice_bounds-all_events-start-2 c = omega (
+  arith,
+  (let at-room : length ((let at-at-3 : List ℕ = (let at-at-2 : List ℕ = (let at-at_1 : List ℕ = c.args.script.now in at-at_1) in at-at-2) in at-at-3)) ≡ 11 + 3 * (let at-events : ℕ = c.number_at-events.result in at-events) = let w = sized-tell (event_count ((let at-at-3 : List ℕ = (let at-at-2 : List ℕ = (let at-at_1 : List ℕ = c.args.script.now in at-at_1) in at-at-2) in at-at-3))) (length ((let at-at-3 : List ℕ = (let at-at-2 : List ℕ = (let at-at_1 : List ℕ = c.args.script.now in at-at_1) in at-at-2) in at-at-3))) ((let at-sized : not_sized (event_count ((let at-at-2 : List ℕ = (let at-at_1 : List ℕ = c.args.script.now in at-at_1) in at-at-2))) (length ((let at-at-2 : List ℕ = (let at-at_1 : List ℕ = c.args.script.now in at-at_1) in at-at-2))) ≡ false = sym ((let at-counted : let script = (let at-at_1 : List ℕ = c.args.script.now in at-at_1) in c.not_sized.result ≡ not_sized (event_count script) (length script) = c.not_sized.ensures ∙ rw ((let at-count : c.number_at-events.result ≡ event_count ((let at-at_1 : List ℕ = c.args.script.now in at-at_1)) = c.number_at-events.ensures.0 in at-count)) in at-counted)) ∙ c.if-not_sized.false in at-sized)) in
+      omega (arith, w.1, (let at-events-is : (let at-events : ℕ = c.number_at-events.result in at-events) ≡ event_count ((let at-at-3 : List ℕ = (let at-at-2 : List ℕ = (let at-at_1 : List ℕ = c.args.script.now in at-at_1) in at-at-2) in at-at-3)) = (let at-count : c.number_at-events.result ≡ event_count ((let at-at_1 : List ℕ = c.args.script.now in at-at_1)) = c.number_at-events.ensures.0 in at-count) in at-events-is)) in at-room),
+)
 
 pub all_events-requires : goal.all_events-requires
 unfolding event_count
@@ -78,9 +87,9 @@ returns c =
       long = (let at-long : ltb (length ((let at-at_1 : List ℕ = c.args.script.now in at-at_1))) 11 ≡ false = le-ltb _ _ c.if-script-lt11.false in at-long);
       counted = (let at-sized : not_sized (event_count ((let at-at-2 : List ℕ = (let at-at_1 : List ℕ = c.args.script.now in at-at_1) in at-at-2))) (length ((let at-at-2 : List ℕ = (let at-at_1 : List ℕ = c.args.script.now in at-at_1) in at-at-2))) ≡ false = sym ((let at-counted : let script = (let at-at_1 : List ℕ = c.args.script.now in at-at_1) in c.not_sized.result ≡ not_sized (event_count script) (length script) = c.not_sized.ensures ∙ rw ((let at-count : c.number_at-events.result ≡ event_count ((let at-at_1 : List ℕ = c.args.script.now in at-at_1)) = c.number_at-events.ensures.0 in at-count)) in at-counted)) ∙ c.if-not_sized.false in at-sized);
       opens = (let at-opened : not_opening (decoded ((let at-at-3 : List ℕ = (let at-at-2 : List ℕ = (let at-at_1 : List ℕ = c.args.script.now in at-at_1) in at-at-2) in at-at-3))).n (decoded ((let at-at-3 : List ℕ = (let at-at-2 : List ℕ = (let at-at_1 : List ℕ = c.args.script.now in at-at_1) in at-at-2) in at-at-3))).start ≡ false = sym ((let at-opens : let s = decoded ((let at-at-2 : List ℕ = (let at-at_1 : List ℕ = c.args.script.now in at-at_1) in at-at-2)) in c.open_refused.result ≡ not_opening s.n s.start = let n = decoded-n ((let at-at-2 : List ℕ = (let at-at_1 : List ℕ = c.args.script.now in at-at_1) in at-at-2)) (omega arith) in
-    c.open_refused.ensures ∙ rw (n, c.number_at-start.ensures.0) in at-opens)) ∙ c.if-open_refused.false in at-opened);
+          c.open_refused.ensures ∙ rw (n, c.number_at-start.ensures.0) in at-opens)) ∙ c.if-open_refused.false in at-opened);
       all = was-true _ _ ((let at-listed : let s = decoded ((let at-at-3 : List ℕ = (let at-at-2 : List ℕ = (let at-at_1 : List ℕ = c.args.script.now in at-at_1) in at-at-2) in at-at-3)) in c.all_events.result ≡ all_events s.kinds s.operands = let script = (let at-at-3 : List ℕ = (let at-at-2 : List ℕ = (let at-at_1 : List ℕ = c.args.script.now in at-at_1) in at-at-2) in at-at-3) in
-    let h = (let at-sized : not_sized (event_count ((let at-at-2 : List ℕ = (let at-at_1 : List ℕ = c.args.script.now in at-at_1) in at-at-2))) (length ((let at-at-2 : List ℕ = (let at-at_1 : List ℕ = c.args.script.now in at-at_1) in at-at-2))) ≡ false = sym ((let at-counted : let script = (let at-at_1 : List ℕ = c.args.script.now in at-at_1) in c.not_sized.result ≡ not_sized (event_count script) (length script) = c.not_sized.ensures ∙ rw ((let at-count : c.number_at-events.result ≡ event_count ((let at-at_1 : List ℕ = c.args.script.now in at-at_1)) = c.number_at-events.ensures.0 in at-count)) in at-counted)) ∙ c.if-not_sized.false in at-sized) in
-    c.all_events.ensures ∙ ap₂ all_events (kinds-part script ((let at-events : ℕ = c.number_at-events.result in at-events)) ((let at-events-is : (let at-events : ℕ = c.number_at-events.result in at-events) ≡ event_count ((let at-at-3 : List ℕ = (let at-at-2 : List ℕ = (let at-at_1 : List ℕ = c.args.script.now in at-at_1) in at-at-2) in at-at-3)) = (let at-count : c.number_at-events.result ≡ event_count ((let at-at_1 : List ℕ = c.args.script.now in at-at_1)) = c.number_at-events.ensures.0 in at-count) in at-events-is)) h) (operands-part script ((let at-events : ℕ = c.number_at-events.result in at-events)) ((let at-events-is : (let at-events : ℕ = c.number_at-events.result in at-events) ≡ event_count ((let at-at-3 : List ℕ = (let at-at-2 : List ℕ = (let at-at_1 : List ℕ = c.args.script.now in at-at_1) in at-at-2) in at-at-3)) = (let at-count : c.number_at-events.result ≡ event_count ((let at-at_1 : List ℕ = c.args.script.now in at-at_1)) = c.number_at-events.ensures.0 in at-count) in at-events-is)) h) in at-listed)) c.if-not-all_events.false;
+          let h = (let at-sized : not_sized (event_count ((let at-at-2 : List ℕ = (let at-at_1 : List ℕ = c.args.script.now in at-at_1) in at-at-2))) (length ((let at-at-2 : List ℕ = (let at-at_1 : List ℕ = c.args.script.now in at-at_1) in at-at-2))) ≡ false = sym ((let at-counted : let script = (let at-at_1 : List ℕ = c.args.script.now in at-at_1) in c.not_sized.result ≡ not_sized (event_count script) (length script) = c.not_sized.ensures ∙ rw ((let at-count : c.number_at-events.result ≡ event_count ((let at-at_1 : List ℕ = c.args.script.now in at-at_1)) = c.number_at-events.ensures.0 in at-count)) in at-counted)) ∙ c.if-not_sized.false in at-sized) in
+          c.all_events.ensures ∙ ap₂ all_events (kinds-part script ((let at-events : ℕ = c.number_at-events.result in at-events)) ((let at-events-is : (let at-events : ℕ = c.number_at-events.result in at-events) ≡ event_count ((let at-at-3 : List ℕ = (let at-at-2 : List ℕ = (let at-at_1 : List ℕ = c.args.script.now in at-at_1) in at-at-2) in at-at-3)) = (let at-count : c.number_at-events.result ≡ event_count ((let at-at_1 : List ℕ = c.args.script.now in at-at_1)) = c.number_at-events.ensures.0 in at-count) in at-events-is)) h) (operands-part script ((let at-events : ℕ = c.number_at-events.result in at-events)) ((let at-events-is : (let at-events : ℕ = c.number_at-events.result in at-events) ≡ event_count ((let at-at-3 : List ℕ = (let at-at-2 : List ℕ = (let at-at_1 : List ℕ = c.args.script.now in at-at_1) in at-at-2) in at-at-3)) = (let at-count : c.number_at-events.result ≡ event_count ((let at-at_1 : List ℕ = c.args.script.now in at-at_1)) = c.number_at-events.ensures.0 in at-count) in at-events-is)) h) in at-listed)) c.if-not-all_events.false;
     } in
     parse-accepted script _ tested (rw (c.number_at-start.ensures.0, (let at-events-is : (let at-events : ℕ = c.number_at-events.result in at-events) ≡ event_count ((let at-at-3 : List ℕ = (let at-at-2 : List ℕ = (let at-at_1 : List ℕ = c.args.script.now in at-at_1) in at-at-2) in at-at-3)) = (let at-count : c.number_at-events.result ≡ event_count ((let at-at_1 : List ℕ = c.args.script.now in at-at_1)) = c.number_at-events.ensures.0 in at-count) in at-events-is), n))

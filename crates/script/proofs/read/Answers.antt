@@ -45,9 +45,13 @@ slice_bounds-put_bytes-end c = omega (arith, ((let at-past : FoundIn c.args.scri
 
 pub put_bytes-requires : goal.put_bytes-requires
 unfolding found_of
-put_bytes-requires c = omega (arith, ap length ((let at-past : FoundIn c.args.script.now c.parse-parsed.result = parsed-in _ c.parse-parsed.result c.parse-parsed.ensures c.if-answer-ne0.false in at-past)).kinds, ((let at-fits : let args = c.args in let s = decoded args.script.now in (length s.kinds ≤ length args.kinds.now) × (length s.operands ≤ length args.operands.now) = decoded-fits _ ((let at-past : FoundIn c.args.script.now c.parse-parsed.result = parsed-in _ c.parse-parsed.result c.parse-parsed.ensures c.if-answer-ne0.false in at-past)).tested.counted _ _ ((let at-enough : let args = c.args in no_room (length (decoded args.script.now).kinds) (length args.kinds.now) (length args.operands.now) ≡ false = was-false _ _ ((let at-roomy : let args = c.args in c.no_room.result ≡ no_room (length (decoded args.script.now).kinds) (length args.kinds.now) (length args.operands.now) = let args = c.args in
-    c.no_room.ensures
-    ∙ ap (λ (events : ℕ). no_room events (length args.kinds.now) (length args.operands.now)) (ap (λ (x : Found). x.events) ((let at-past : FoundIn c.args.script.now c.parse-parsed.result = parsed-in _ c.parse-parsed.result c.parse-parsed.ensures c.if-answer-ne0.false in at-past)).is_found) in at-roomy)) c.if-no_room.false in at-enough)) in at-fits)).0)
+put_bytes-requires c = omega (
+  arith,
+  ap length ((let at-past : FoundIn c.args.script.now c.parse-parsed.result = parsed-in _ c.parse-parsed.result c.parse-parsed.ensures c.if-answer-ne0.false in at-past)).kinds,
+  ((let at-fits : let args = c.args in let s = decoded args.script.now in (length s.kinds ≤ length args.kinds.now) × (length s.operands ≤ length args.operands.now) = decoded-fits _ ((let at-past : FoundIn c.args.script.now c.parse-parsed.result = parsed-in _ c.parse-parsed.result c.parse-parsed.ensures c.if-answer-ne0.false in at-past)).tested.counted _ _ ((let at-enough : let args = c.args in no_room (length (decoded args.script.now).kinds) (length args.kinds.now) (length args.operands.now) ≡ false = was-false _ _ ((let at-roomy : let args = c.args in c.no_room.result ≡ no_room (length (decoded args.script.now).kinds) (length args.kinds.now) (length args.operands.now) = let args = c.args in
+      c.no_room.ensures
+      ∙ ap (λ (events : ℕ). no_room events (length args.kinds.now) (length args.operands.now)) (ap (λ (x : Found). x.events) ((let at-past : FoundIn c.args.script.now c.parse-parsed.result = parsed-in _ c.parse-parsed.result c.parse-parsed.ensures c.if-answer-ne0.false in at-past)).is_found) in at-roomy)) c.if-no_room.false in at-enough)) in at-fits)).0,
+)
 
 pub slice_bounds-put_bytes-count-2 : goal.slice_bounds-put_bytes-count-2
 slice_bounds-put_bytes-count-2 c = omega (arith, ((let at-past : FoundIn c.args.script.now c.parse-parsed.result = parsed-in _ c.parse-parsed.result c.parse-parsed.ensures c.if-answer-ne0.false in at-past)).long)
@@ -58,9 +62,13 @@ slice_bounds-put_bytes-start-2 c = omega (arith, ((let at-past : FoundIn c.args.
 pub put_bytes-requires-2 : goal.put_bytes-requires-2
 unfolding found_of
 put_bytes-requires-2 c =
-    omega (arith, ap length ((let at-past : FoundIn c.args.script.now c.parse-parsed.result = parsed-in _ c.parse-parsed.result c.parse-parsed.ensures c.if-answer-ne0.false in at-past)).operands, ((let at-fits : let args = c.args in let s = decoded args.script.now in (length s.kinds ≤ length args.kinds.now) × (length s.operands ≤ length args.operands.now) = decoded-fits _ ((let at-past : FoundIn c.args.script.now c.parse-parsed.result = parsed-in _ c.parse-parsed.result c.parse-parsed.ensures c.if-answer-ne0.false in at-past)).tested.counted _ _ ((let at-enough : let args = c.args in no_room (length (decoded args.script.now).kinds) (length args.kinds.now) (length args.operands.now) ≡ false = was-false _ _ ((let at-roomy : let args = c.args in c.no_room.result ≡ no_room (length (decoded args.script.now).kinds) (length args.kinds.now) (length args.operands.now) = let args = c.args in
-    c.no_room.ensures
-    ∙ ap (λ (events : ℕ). no_room events (length args.kinds.now) (length args.operands.now)) (ap (λ (x : Found). x.events) ((let at-past : FoundIn c.args.script.now c.parse-parsed.result = parsed-in _ c.parse-parsed.result c.parse-parsed.ensures c.if-answer-ne0.false in at-past)).is_found) in at-roomy)) c.if-no_room.false in at-enough)) in at-fits)).1)
+    omega (
+      arith,
+      ap length ((let at-past : FoundIn c.args.script.now c.parse-parsed.result = parsed-in _ c.parse-parsed.result c.parse-parsed.ensures c.if-answer-ne0.false in at-past)).operands,
+      ((let at-fits : let args = c.args in let s = decoded args.script.now in (length s.kinds ≤ length args.kinds.now) × (length s.operands ≤ length args.operands.now) = decoded-fits _ ((let at-past : FoundIn c.args.script.now c.parse-parsed.result = parsed-in _ c.parse-parsed.result c.parse-parsed.ensures c.if-answer-ne0.false in at-past)).tested.counted _ _ ((let at-enough : let args = c.args in no_room (length (decoded args.script.now).kinds) (length args.kinds.now) (length args.operands.now) ≡ false = was-false _ _ ((let at-roomy : let args = c.args in c.no_room.result ≡ no_room (length (decoded args.script.now).kinds) (length args.kinds.now) (length args.operands.now) = let args = c.args in
+          c.no_room.ensures
+          ∙ ap (λ (events : ℕ). no_room events (length args.kinds.now) (length args.operands.now)) (ap (λ (x : Found). x.events) ((let at-past : FoundIn c.args.script.now c.parse-parsed.result = parsed-in _ c.parse-parsed.result c.parse-parsed.ensures c.if-answer-ne0.false in at-past)).is_found) in at-roomy)) c.if-no_room.false in at-enough)) in at-fits)).1,
+    )
 
 pub returns : goal.returns
 unfolding found_of

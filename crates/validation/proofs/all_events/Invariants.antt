@@ -1,14 +1,10 @@
 -- `validation::all_events` meets its contract: the events before place i pass.
 use Prim.Native.Nat.{◌+◌, ◌-◌, ◌*◌, ◌≤◌}
-use mathlib.Core.Path.{◌≡◌, sym}
+use mathlib.Core.Path.{◌≡◌}
 use mathlib.Core.Bool.{true, not}
 use lib.ListN.{length, get_or}
-use native.Mathlib.Omega.{arith}
-use borrow.Author.Rules.{rules}
 use Rattle.base.specs.Lists.{all_below}
-use Rattle.base.proofs.Booleans.{was-true, was-false}
-use Rattle.base.proofs.Loops.{all_none, all_more, all-ends, all-broken}
-use Rattle.model.specs.Events.{not_event, all_events}
+use Rattle.model.specs.Events.{not_event}
 use Rattle.validation.proofs.all_events.Given as goal
 
 abbrev pub invariant-loop-i : goal.invariant-loop-i

@@ -1,6 +1,5 @@
 -- `validation::limit_refused` meets its contract: the one test.
 use mathlib.Core.Path.{refl}
-use borrow.Author.Rules.{rules}
 use Rattle.model.specs.Calls.{not_limit}
 use Rattle.validation.proofs.limit_refused.Goals as goal
 

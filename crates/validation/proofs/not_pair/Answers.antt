@@ -1,5 +1,4 @@
 -- `validation::not_pair` meets its contract: the three tests.
-use borrow.Author.Rules.{rules}
 use Rattle.validation.proofs.not_pair.Goals as goal
 
 pub returns : goal.returns

@@ -1,6 +1,5 @@
 -- `validation::open_refusal` meets its contract: 1 where the first test holds, 14 where only the second does, and else 0.
 use mathlib.Core.Path.{sym, ◌∙◌}
-use borrow.Author.Rules.{rules}
 use Rattle.validation.proofs.open_refusal.Goals as goal
 
 pub returns-then-open_refused : goal.returns-then-open_refused

@@ -1,5 +1,4 @@
 -- `validation::open_refused` meets its contract: the two tests.
-use borrow.Author.Rules.{rules}
 use Rattle.model.specs.Calls.{not_opening}
 use Rattle.validation.proofs.open_refused.Goals as goal
 

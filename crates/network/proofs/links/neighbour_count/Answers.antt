@@ -27,7 +27,7 @@ loop-b-preserved c =
     let up = sym (c.joined.ensures ∙ link_at _ _ _ _ c.pair_place-at.ensures) in
     let grown = length-append (below at.b (link_in args.links args.a)) (at.b ∷ []) in
     elim c.if-joined.branch [
-        then-joined w ↦ (omega arith, w.count-is ∙ ap (λ k. k + 1) at.invariant.1 ∙ sym (ap length (below-yes _ _ (up ∙ w.if-joined.true)) ∙ grown))
+      | then-joined w ↦ (omega arith, w.count-is ∙ ap (λ k. k + 1) at.invariant.1 ∙ sym (ap length (below-yes _ _ (up ∙ w.if-joined.true)) ∙ grown))
       | else-joined w ↦ (omega arith, w.count-is ∙ at.invariant.1 ∙ sym (ap length (below-no _ _ (up ∙ w.if-joined.false))))
     ]
 

@@ -26,7 +26,7 @@ loop-k-preserved c =
     let test = apart args.a args.b in
     let between = c.is_between.ensures in
     elim c.if-not-is_between.branch [
-        then-not-is_between w ↦
+      | then-not-is_between w ↦
           let stays : test (f at.k) ≡ true = ap not (was-false _ _ between w.if-not-is_between.true) in
           (omega arith, omega arith, w.left-is ∙ rw (keep-yes test at.k f stays, length-append (keep test (tabulate at.k f)) (f at.k ∷ []), ← at.invariant.2))
       | else-not-is_between w ↦

@@ -50,7 +50,7 @@ loop-b-preserved c =
     let copy : ℕ → model.Packet = λ x. packet args.a x (body_of args.p) args.p.serial in
     let linked = sym (c.joined.ensures ∙ link_at _ _ _ _ c.pair_place-pair.ensures) in
     elim c.if-joined.branch [
-        then-joined w ↦
+      | then-joined w ↦
           let yes = linked ∙ w.if-joined.true in
           let more = ap length (below-yes up at.b yes) ∙ length-append (below at.b up) (at.b ∷ []) in (
             omega arith,

@@ -25,7 +25,7 @@ loop-k-preserved c =
     let f = packet_in args.packets in
     let between = c.is_between.ensures in
     elim c.if-not-is_between.branch [
-        then-not-is_between w ↦
+      | then-not-is_between w ↦
           let stays : apart args.a args.b (f at.k) ≡ true = ap not (was-false _ _ between w.if-not-is_between.true) in (
             omega arith,
             omega arith,

@@ -10,7 +10,7 @@ use native.Mathlib.Omega.{arith}
 use borrow.Author.Rules.{rules}
 use native.Mathlib.Nat.{sub-zero}
 use borrow.Author.Tests.{eq-eqb, eqb-true}
-use Rattle.base.specs.Choice.{if◌then◌else◌}
+use Rattle.std.specs.Prelude.{if◌then◌else◌}
 use Rattle.base.specs.Numbers.{max_u64}
 use Rattle.model.specs.Memory.{row_in, row_at, place, memory_in_range, air_limit}
 use Rattle.model.specs.Calls.{take_out, bit, hop_limit, follow}
@@ -378,8 +378,7 @@ loop-v-preserved c =
     let two = cut_below tested passed which c.cut_of-cut.ensures.down c.cut_of-cut.ensures.error in
     let placed = turn-places c.loop-u.losses.removed c.loop-v-test.true c.turns_of-turns.ensures two known.high c.place-cell-in-loop-v.ensures c.place-slot-in-loop-v.ensures in
     let same = rows-same c.loop-v.invariant.2 (below-few placed.0 known.high) c.place-cell-in-loop-v.ensures c.place-slot-in-loop-v.ensures in
-    let cutting = ap (λ (m : Memory). with_rows m (set (set c.loop-v.memory.rows c.place-cell-in-loop-v.result c.cut_row-rest.result) c.place-slot-in-loop-v.result c.cut_row-others.result)) c.loop-v.invariant.1 in
-    (
+    let cutting = ap (λ (m : Memory). with_rows m (set (set c.loop-v.memory.rows c.place-cell-in-loop-v.result c.cut_row-rest.result) c.place-slot-in-loop-v.result c.cut_row-others.result)) c.loop-v.invariant.1 in (
       omega (arith, c.loop-v-test.true),
       cutting,
       rw (c.place-cell-in-loop-v.ensures, c.place-slot-in-loop-v.ensures)

@@ -10,7 +10,7 @@ use native.Mathlib.Omega.{arith}
 use borrow.Author.Rules.{rules}
 use native.Mathlib.Nat.{sub-zero}
 use borrow.Author.Tests.{eq-eqb, eqb-true}
-use Rattle.base.specs.Choice.{if◌then◌else◌}
+use Rattle.std.specs.Prelude.{if◌then◌else◌}
 use Rattle.base.specs.Numbers.{max_u64}
 use Rattle.model.specs.Memory.{row_in, row_at, place, memory_in_range, air_limit}
 use Rattle.model.specs.Calls.{take_out, bit, hop_limit, follow}

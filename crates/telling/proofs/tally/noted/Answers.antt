@@ -2,7 +2,6 @@
 use Prim.Native.Nat.{ℕ, ◌+◌, max}
 use mathlib.Core.Path.{◌≡◌, ap}
 use native.Mathlib.Omega.{arith}
-use borrow.Author.Rules.{rules}
 use Rattle.telling.specs.declared.tally.Tally.{Tally}
 use Rattle.telling.specs.Tallies.{with_event}
 use Rattle.telling.proofs.tally.noted.Goals as goal

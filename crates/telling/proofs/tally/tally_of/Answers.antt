@@ -1,7 +1,6 @@
 -- `tally::tally_of` meets its contract: before each turn the tally counts the events before number i.
-use Prim.Native.Nat.{◌-◌, ◌≤◌}
 use borrow.Author.Rules.{rules}
-use Rattle.telling.proofs.TallyLaws.{Counts, counts-none, counts-more, counts_all}
+use Rattle.telling.proofs.TallyLaws.{counts-none, counts-more, counts_all}
 use Rattle.telling.proofs.tally.tally_of.Goals as goal
 
 pub loop-i-init : goal.loop-i-init

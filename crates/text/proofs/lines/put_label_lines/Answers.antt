@@ -20,23 +20,39 @@ loop-i-init c = (omega arith, puts_none _ _, omega arith)
 
 pub put_station_lines-end-requires : goal.put_station_lines-end-requires
 put_station_lines-end-requires c =
-    record { memory_value = (c.requires.memory_value, omega arith); n_in_bounds = omega (arith, ((let at-ranged : Ranged c.args.memory = in-range-ranged c.args.memory
-    (sized c.args.memory c.well_formed.1.1.0)
-    c.requires.memory_value in at-ranged)).high, puts-length c.loop-i.invariant.1) }
+    record {
+      memory_value = (c.requires.memory_value, omega arith);
+      n_in_bounds = omega (
+        arith,
+        ((let at-ranged : Ranged c.args.memory = in-range-ranged c.args.memory
+            (sized c.args.memory c.well_formed.1.1.0)
+            c.requires.memory_value in at-ranged)).high,
+        puts-length c.loop-i.invariant.1,
+      );
+    }
 
 pub loop-i-preserved : goal.loop-i-preserved
 loop-i-preserved c =
     let loop = c.loop-i in (
       omega arith,
       rw (lines_more (view c.args.memory) loop.i) (puts-append loop.invariant.1 c.put_station_lines-end.ensures.puts_at),
-      omega (arith, ((let at-ranged : Ranged c.args.memory = in-range-ranged c.args.memory
-    (sized c.args.memory c.well_formed.1.1.0)
-    c.requires.memory_value in at-ranged)).high),
+      omega (
+        arith,
+        ((let at-ranged : Ranged c.args.memory = in-range-ranged c.args.memory
+            (sized c.args.memory c.well_formed.1.1.0)
+            c.requires.memory_value in at-ranged)).high,
+      ),
     )
 
 pub returns : goal.returns
 returns c =
     let whole : c.loop-i.i ≡ c.args.memory.n = omega arith in
-    record { puts_at = rw whole at c.loop-i.invariant.1; upper_bound = omega (arith, ((let at-ranged : Ranged c.args.memory = in-range-ranged c.args.memory
-    (sized c.args.memory c.well_formed.1.1.0)
-    c.requires.memory_value in at-ranged)).high) }
+    record {
+      puts_at = rw whole at c.loop-i.invariant.1;
+      upper_bound = omega (
+        arith,
+        ((let at-ranged : Ranged c.args.memory = in-range-ranged c.args.memory
+            (sized c.args.memory c.well_formed.1.1.0)
+            c.requires.memory_value in at-ranged)).high,
+      );
+    }

@@ -20,53 +20,100 @@ unfolding text_below below flat_map
 loop-t-init c = (omega arith, puts_none _ _, omega arith)
 
 pub offset_bounds-memory-here : goal.offset_bounds-memory-here
-offset_bounds-memory-here c = omega (arith, (let at-placed : place c.args.i c.loop-t.t < 256 = omega (arith, ((let at-ranged : Ranged c.args.memory = in-range-ranged c.args.memory
-    (sized c.args.memory c.well_formed.1.1.0)
-    c.requires.memory_value.0 in at-ranged)).high) in at-placed))
+offset_bounds-memory-here c = omega (
+  arith,
+  (let at-placed : place c.args.i c.loop-t.t < 256 = omega (
+    arith,
+    ((let at-ranged : Ranged c.args.memory = in-range-ranged c.args.memory
+        (sized c.args.memory c.well_formed.1.1.0)
+        c.requires.memory_value.0 in at-ranged)).high,
+  ) in at-placed),
+)
 
 pub bounds-memory-here : goal.bounds-memory-here
-bounds-memory-here c = omega (arith, (let at-placed : place c.args.i c.loop-t.t < 256 = omega (arith, ((let at-ranged : Ranged c.args.memory = in-range-ranged c.args.memory
-    (sized c.args.memory c.well_formed.1.1.0)
-    c.requires.memory_value.0 in at-ranged)).high) in at-placed))
+bounds-memory-here c = omega (
+  arith,
+  (let at-placed : place c.args.i c.loop-t.t < 256 = omega (
+    arith,
+    ((let at-ranged : Ranged c.args.memory = in-range-ranged c.args.memory
+        (sized c.args.memory c.well_formed.1.1.0)
+        c.requires.memory_value.0 in at-ranged)).high,
+  ) in at-placed),
+)
 
 pub offset_bounds-memory-here-in-loop-t : goal.offset_bounds-memory-here-in-loop-t
-offset_bounds-memory-here-in-loop-t c = omega (arith, (let at-placed : place c.args.i c.loop-t.t < 256 = omega (arith, ((let at-ranged : Ranged c.args.memory = in-range-ranged c.args.memory
-    (sized c.args.memory c.well_formed.1.1.0)
-    c.requires.memory_value.0 in at-ranged)).high) in at-placed))
+offset_bounds-memory-here-in-loop-t c = omega (
+  arith,
+  (let at-placed : place c.args.i c.loop-t.t < 256 = omega (
+    arith,
+    ((let at-ranged : Ranged c.args.memory = in-range-ranged c.args.memory
+        (sized c.args.memory c.well_formed.1.1.0)
+        c.requires.memory_value.0 in at-ranged)).high,
+  ) in at-placed),
+)
 
 pub bounds-memory-here-in-loop-t : goal.bounds-memory-here-in-loop-t
-bounds-memory-here-in-loop-t c = omega (arith, (let at-placed : place c.args.i c.loop-t.t < 256 = omega (arith, ((let at-ranged : Ranged c.args.memory = in-range-ranged c.args.memory
-    (sized c.args.memory c.well_formed.1.1.0)
-    c.requires.memory_value.0 in at-ranged)).high) in at-placed))
+bounds-memory-here-in-loop-t c = omega (
+  arith,
+  (let at-placed : place c.args.i c.loop-t.t < 256 = omega (
+    arith,
+    ((let at-ranged : Ranged c.args.memory = in-range-ranged c.args.memory
+        (sized c.args.memory c.well_formed.1.1.0)
+        c.requires.memory_value.0 in at-ranged)).high,
+  ) in at-placed),
+)
 
 pub offset_bounds-memory-here-in-loop-t-2 : goal.offset_bounds-memory-here-in-loop-t-2
-offset_bounds-memory-here-in-loop-t-2 c = omega (arith, (let at-placed : place c.args.i c.loop-t.t < 256 = omega (arith, ((let at-ranged : Ranged c.args.memory = in-range-ranged c.args.memory
-    (sized c.args.memory c.well_formed.1.1.0)
-    c.requires.memory_value.0 in at-ranged)).high) in at-placed))
+offset_bounds-memory-here-in-loop-t-2 c = omega (
+  arith,
+  (let at-placed : place c.args.i c.loop-t.t < 256 = omega (
+    arith,
+    ((let at-ranged : Ranged c.args.memory = in-range-ranged c.args.memory
+        (sized c.args.memory c.well_formed.1.1.0)
+        c.requires.memory_value.0 in at-ranged)).high,
+  ) in at-placed),
+)
 
 pub bounds-memory-here-in-loop-t-2 : goal.bounds-memory-here-in-loop-t-2
-bounds-memory-here-in-loop-t-2 c = omega (arith, (let at-placed : place c.args.i c.loop-t.t < 256 = omega (arith, ((let at-ranged : Ranged c.args.memory = in-range-ranged c.args.memory
-    (sized c.args.memory c.well_formed.1.1.0)
-    c.requires.memory_value.0 in at-ranged)).high) in at-placed))
+bounds-memory-here-in-loop-t-2 c = omega (
+  arith,
+  (let at-placed : place c.args.i c.loop-t.t < 256 = omega (
+    arith,
+    ((let at-ranged : Ranged c.args.memory = in-range-ranged c.args.memory
+        (sized c.args.memory c.well_formed.1.1.0)
+        c.requires.memory_value.0 in at-ranged)).high,
+  ) in at-placed),
+)
 
 pub offset_bounds-memory-here-in-loop-t-3 : goal.offset_bounds-memory-here-in-loop-t-3
-offset_bounds-memory-here-in-loop-t-3 c = omega (arith, (let at-placed : place c.args.i c.loop-t.t < 256 = omega (arith, ((let at-ranged : Ranged c.args.memory = in-range-ranged c.args.memory
-    (sized c.args.memory c.well_formed.1.1.0)
-    c.requires.memory_value.0 in at-ranged)).high) in at-placed))
+offset_bounds-memory-here-in-loop-t-3 c = omega (
+  arith,
+  (let at-placed : place c.args.i c.loop-t.t < 256 = omega (
+    arith,
+    ((let at-ranged : Ranged c.args.memory = in-range-ranged c.args.memory
+        (sized c.args.memory c.well_formed.1.1.0)
+        c.requires.memory_value.0 in at-ranged)).high,
+  ) in at-placed),
+)
 
 pub bounds-memory-here-in-loop-t-3 : goal.bounds-memory-here-in-loop-t-3
-bounds-memory-here-in-loop-t-3 c = omega (arith, (let at-placed : place c.args.i c.loop-t.t < 256 = omega (arith, ((let at-ranged : Ranged c.args.memory = in-range-ranged c.args.memory
-    (sized c.args.memory c.well_formed.1.1.0)
-    c.requires.memory_value.0 in at-ranged)).high) in at-placed))
+bounds-memory-here-in-loop-t-3 c = omega (
+  arith,
+  (let at-placed : place c.args.i c.loop-t.t < 256 = omega (
+    arith,
+    ((let at-ranged : Ranged c.args.memory = in-range-ranged c.args.memory
+        (sized c.args.memory c.well_formed.1.1.0)
+        c.requires.memory_value.0 in at-ranged)).high,
+  ) in at-placed),
+)
 
 pub put_label_line-end-requires : goal.put_label_line-end-requires
 put_label_line-end-requires c =
-    let loop = c.loop-t in
-    (
+    let loop = c.loop-t in (
       omega (arith, puts-length loop.invariant.1),
       rw c.place-here.ensures (((let at-ranged : Ranged c.args.memory = in-range-ranged c.args.memory
-    (sized c.args.memory c.well_formed.1.1.0)
-    c.requires.memory_value.0 in at-ranged)).row c.args.i loop.t (omega arith) (omega arith)).short,
+          (sized c.args.memory c.well_formed.1.1.0)
+          c.requires.memory_value.0 in at-ranged)).row c.args.i loop.t (omega arith) (omega arith)).short,
     )
 
 pub loop-t-preserved-then-is_listed : goal.loop-t-preserved-then-is_listed
@@ -75,14 +122,23 @@ loop-t-preserved-then-is_listed c =
     let loop = c.loop-t in
     let args = c.args in
     let yes = (let at-listed : let args = c.args in is_listed (view args.memory) args.i c.loop-t.t ≡ c.is_listed.result = let args = c.args in
-    listed_at args.memory args.i c.loop-t.t ((let at-placed : place c.args.i c.loop-t.t < 256 = omega (arith, ((let at-ranged : Ranged c.args.memory = in-range-ranged c.args.memory
-    (sized c.args.memory c.well_formed.1.1.0)
-    c.requires.memory_value.0 in at-ranged)).high) in at-placed)) ∙ sym (c.is_listed.ensures ∙ rw ((let at-labelled : let args = c.args in c.label_of-label.result ≡ label_of args.memory.s args.memory.m args.memory.d (place args.i c.loop-t.t) = c.label_of-label.ensures ∙ rw c.place-here.ensures in at-labelled))) in at-listed) ∙ c.if-is_listed.true in
+    listed_at args.memory args.i c.loop-t.t ((let at-placed : place c.args.i c.loop-t.t < 256 = omega (
+      arith,
+      ((let at-ranged : Ranged c.args.memory = in-range-ranged c.args.memory
+          (sized c.args.memory c.well_formed.1.1.0)
+          c.requires.memory_value.0 in at-ranged)).high,
+    ) in at-placed)) ∙ sym (c.is_listed.ensures ∙ rw ((let at-labelled : let args = c.args in c.label_of-label.result ≡ label_of args.memory.s args.memory.m args.memory.d (place args.i c.loop-t.t) = c.label_of-label.ensures ∙ rw c.place-here.ensures in at-labelled))) in at-listed) ∙ c.if-is_listed.true in
     let put = rw ((let at-labelled : let args = c.args in c.label_of-label.result ≡ label_of args.memory.s args.memory.m args.memory.d (place args.i c.loop-t.t) = c.label_of-label.ensures ∙ rw c.place-here.ensures in at-labelled), c.place-here.ensures) at c.put_label_line-end.ensures.puts_at in (
       omega arith,
-      rw (text-yes (view args.memory) args.i loop.t yes, line_at args.memory args.i loop.t ((let at-placed : place c.args.i c.loop-t.t < 256 = omega (arith, ((let at-ranged : Ranged c.args.memory = in-range-ranged c.args.memory
-    (sized c.args.memory c.well_formed.1.1.0)
-    c.requires.memory_value.0 in at-ranged)).high) in at-placed)))
+      rw (
+        text-yes (view args.memory) args.i loop.t yes,
+        line_at args.memory args.i loop.t ((let at-placed : place c.args.i c.loop-t.t < 256 = omega (
+          arith,
+          ((let at-ranged : Ranged c.args.memory = in-range-ranged c.args.memory
+              (sized c.args.memory c.well_formed.1.1.0)
+              c.requires.memory_value.0 in at-ranged)).high,
+        ) in at-placed)),
+      )
           (puts-append loop.invariant.1 put),
       omega arith,
     )
@@ -91,11 +147,17 @@ pub loop-t-preserved : goal.loop-t-preserved
 unfolding label_of
 loop-t-preserved c =
     let loop = c.loop-t in
-    let args = c.args in
-    (omega arith, rw (text-no (view args.memory) args.i loop.t ((let at-listed : let args = c.args in is_listed (view args.memory) args.i c.loop-t.t ≡ c.is_listed.result = let args = c.args in
-    listed_at args.memory args.i c.loop-t.t ((let at-placed : place c.args.i c.loop-t.t < 256 = omega (arith, ((let at-ranged : Ranged c.args.memory = in-range-ranged c.args.memory
-    (sized c.args.memory c.well_formed.1.1.0)
-    c.requires.memory_value.0 in at-ranged)).high) in at-placed)) ∙ sym (c.is_listed.ensures ∙ rw ((let at-labelled : let args = c.args in c.label_of-label.result ≡ label_of args.memory.s args.memory.m args.memory.d (place args.i c.loop-t.t) = c.label_of-label.ensures ∙ rw c.place-here.ensures in at-labelled))) in at-listed) ∙ c.if-is_listed.false)) loop.invariant.1, omega arith)
+    let args = c.args in (
+      omega arith,
+      rw (text-no (view args.memory) args.i loop.t ((let at-listed : let args = c.args in is_listed (view args.memory) args.i c.loop-t.t ≡ c.is_listed.result = let args = c.args in
+          listed_at args.memory args.i c.loop-t.t ((let at-placed : place c.args.i c.loop-t.t < 256 = omega (
+            arith,
+            ((let at-ranged : Ranged c.args.memory = in-range-ranged c.args.memory
+                (sized c.args.memory c.well_formed.1.1.0)
+                c.requires.memory_value.0 in at-ranged)).high,
+          ) in at-placed)) ∙ sym (c.is_listed.ensures ∙ rw ((let at-labelled : let args = c.args in c.label_of-label.result ≡ label_of args.memory.s args.memory.m args.memory.d (place args.i c.loop-t.t) = c.label_of-label.ensures ∙ rw c.place-here.ensures in at-labelled))) in at-listed) ∙ c.if-is_listed.false)) loop.invariant.1,
+      omega arith,
+    )
 
 pub returns : goal.returns
 unfolding view text_below station_lines
