@@ -1,4 +1,4 @@
-//! Links target/staticlib/libconsole.a, which `rt staticlib console` writes.
+//! Links target/staticlib/libconsole.a, which tests/library/build writes.
 
 use std::path::Path;
 

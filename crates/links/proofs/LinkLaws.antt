@@ -1,21 +1,21 @@
 -- Laws of links as rows of bits.
-use Prim.Native.Nat.{ℕ, zero, suc, ◌+◌, ◌*◌, ◌/◌, ◌%◌, ◌^◌, ◌≤◌, ◌<◌}
+use Prim.Native.Nat.{ℕ, ◌+◌, ◌*◌, ◌/◌, ◌%◌, ◌^◌, ◌≤◌, ◌<◌}
 use mathlib.Core.Path.{◌≡◌, refl, sym, ap, subst, ◌∙◌}
 use mathlib.Core.Logic.{◌≢◌}
 use mathlib.Core.Bool.{Bool, true, false, not, ◌&&◌, ◌||◌, and-false}
-use mathlib.Core.List.{List, []}
+use mathlib.Core.List.{List}
 use lib.ListN.{length, get_or, set, replicate, length-set}
 use lib.Seq.{get_or-set_same, get_or-set_other}
 use lib.Dec.{eqb, ltb}
 use lib.Pow.{pow-lt, pow_pos}
 use native.Mathlib.Omega.{arith}
-use borrow.Author.Tests.{lt-ltb, le-ltb, ltb-true, ltb-false, eqb-true, eqb-false, eq-eqb, ne_eqb, not-true}
+use borrow.Author.Tests.{lt-ltb, ltb-true, ltb-false, eqb-true, eqb-false, eq-eqb, ne_eqb, not-true}
 use Rattle.std.specs.Prelude.{if◌then◌else◌}
 use Rattle.base.specs.Lists.{all_below, below, tabulate}
 use Rattle.base.proofs.Booleans.{both, passes, negates, iff, clash, Trichotomy, less, equal, more, trichotomy}
 use Rattle.base.proofs.Lists.{all-below, all-below-at, set-either}
 use Rattle.base.proofs.Loops.{tabulate-at, tabulate-set, tabulate-constant, below-same, below-past}
-use Rattle.model.specs.Memory.{Network, place, pair_place, link_in, fresh}
+use Rattle.model.specs.Memory.{Network, place, pair_place, link_in}
 use Rattle.model.specs.Calls.{bit}
 use Rattle.links.specs.Links.{stations_in, linked, pair_up, links_of, link_row_in_range, links_in_range, where_read, LinkSet}
 use Rattle.links.proofs.Bits.{bit-above, bit-zero, bits-bound}

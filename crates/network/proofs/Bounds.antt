@@ -8,7 +8,6 @@ use mir.Val.{Val}
 use denote.Laws.{Is}
 use denote.Array.{Array, array_vals}
 use denote.Struct.Laws.{vals}
-use Rattle.base.proofs.Lists.{unmapped}
 use Rattle.base.proofs.Loops.{tabulate-length}
 use Rattle.model.specs.Memory.{air_limit, Sized}
 use Rattle.label.specs.declared.Label.{Label}

@@ -1,5 +1,4 @@
 -- `row_in_range` meets its contract: the first test that fails, or the last one.
-use Rattle.std.proofs.Common.{sym, ◌∙◌}
 use Rattle.base.proofs.Booleans.{was-true, was-false}
 use Rattle.links.specs.Links.{link_row_in_range}
 use Rattle.links.proofs.row_in_range.Goals as goal

@@ -1,5 +1,5 @@
 -- `set_link` meets its contract: a bit in the row of each of the two.
-use Rattle.std.proofs.Common.{refl, arith}
+use Rattle.std.proofs.Common.{arith}
 use Rattle.base.proofs.Booleans.{clash}
 use Rattle.links.proofs.LinkLaws.{link_set}
 use Rattle.links.proofs.set_link.Goals as goal

@@ -1,7 +1,6 @@
 -- `entries::entry_of` meets its contract: past the count, or within it.
 use mathlib.Core.Path.{sym, ◌∙◌}
 use native.Mathlib.Omega.{arith}
-use borrow.Author.Rules.{rules}
 use borrow.Author.Tests.{le-ltb}
 use Rattle.base.proofs.Loops.{tabulate-at, tabulate-or}
 use Rattle.model.specs.Memory.{zero_label}

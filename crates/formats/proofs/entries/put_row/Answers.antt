@@ -1,22 +1,18 @@
 -- `entries::put_row` meets its contract: the count, and then the first k entries are put.
-use Prim.Native.Nat.{ℕ, ◌+◌, ◌-◌, ◌≤◌}
+use Prim.Native.Nat.{◌+◌}
 use mathlib.Core.Path.{◌≡◌, refl, ◌∙◌}
 use mathlib.Core.List.{[], ◌∷◌, flat_map}
-use lib.ListN.{get_or}
 use native.Mathlib.Omega.{arith}
-use borrow.Author.Rules.{rules}
 use Rattle.base.specs.Lists.{tabulate}
 use Rattle.rows.proofs.Bounds.{RowLengths, row-lengths}
 use Rattle.codec.proofs.ByteLaws.{sets-next}
-use Rattle.model.specs.Memory.{Successor, row_limit}
-use Rattle.rows.specs.declared.Row.{Row}
-use Rattle.rows.specs.View.{row_of}
+use Rattle.model.specs.Memory.{row_limit}
 use Rattle.rows.proofs.RowLaws.{row-length}
 use Rattle.codec.specs.Fields.{Fits}
 use Rattle.codec.specs.Tables.{padded, counted_bytes}
 use Rattle.codec.proofs.FieldLaws.{written-wide}
-use Rattle.codec.proofs.TableLaws.{Put, put-none, put-length, put-more}
-use Rattle.formats.specs.Formats.{successor_format, zero_successor}
+use Rattle.codec.proofs.TableLaws.{put-none, put-length, put-more}
+use Rattle.formats.specs.Formats.{successor_format}
 use Rattle.formats.specs.Written.{successor_bytes}
 use Rattle.formats.proofs.EntryLaws.{row-past}
 use Rattle.formats.proofs.entries.put_row.Invariants.{entry_in}

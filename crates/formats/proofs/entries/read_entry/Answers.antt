@@ -1,7 +1,6 @@
 -- `entries::read_entry` meets its contract: the values at the place, and the entry with them.
 use mathlib.Core.Path.{refl, ap, ◌∙◌}
 use native.Mathlib.Omega.{arith}
-use borrow.Author.Rules.{rules}
 use Rattle.formats.specs.Formats.{successor_from}
 use Rattle.formats.proofs.entries.read_entry.Goals as goal
 

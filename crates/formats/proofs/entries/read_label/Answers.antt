@@ -1,7 +1,6 @@
 -- `entries::read_label` meets its contract: the values at the place, and the label with them.
 use mathlib.Core.Path.{refl, ap, ◌∙◌}
 use native.Mathlib.Omega.{arith}
-use borrow.Author.Rules.{rules}
 use Rattle.formats.specs.Formats.{label_from}
 use Rattle.formats.proofs.entries.read_label.Goals as goal
 

@@ -1,7 +1,6 @@
 -- `entries::read_record` meets its contract: the values at the place, and the record with them.
 use mathlib.Core.Path.{refl, ap, ◌∙◌}
 use native.Mathlib.Omega.{arith}
-use borrow.Author.Rules.{rules}
 use Rattle.formats.specs.Formats.{record_from}
 use Rattle.formats.proofs.EntryLaws.{record-in}
 use Rattle.formats.proofs.entries.read_record.Goals as goal

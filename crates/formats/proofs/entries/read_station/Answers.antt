@@ -1,7 +1,6 @@
 -- `entries::read_station` meets its contract: the values at the place, and the station with them.
 use mathlib.Core.Path.{refl, ap, ◌∙◌}
 use native.Mathlib.Omega.{arith}
-use borrow.Author.Rules.{rules}
 use Rattle.formats.specs.Formats.{station_from}
 use Rattle.formats.proofs.entries.read_station.Goals as goal
 

@@ -1,5 +1,4 @@
 -- `meaning::fields_have_meaning` meets its contract: each answer by the packet's kind.
-use borrow.Author.Rules.{rules}
 use borrow.Author.Tests.{ne_eqb}
 use Rattle.formats.specs.Meaning.{fields_have_meaning}
 use Rattle.formats.proofs.meaning.fields_have_meaning.Goals as goal

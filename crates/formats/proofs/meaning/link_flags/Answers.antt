@@ -4,7 +4,6 @@ use mathlib.Core.List.{List}
 use Prim.Native.Nat.{ℕ}
 use Rattle.codec.specs.Fields.{flags_from}
 use Rattle.formats.specs.Formats.{link_format}
-use borrow.Author.Rules.{rules}
 use Rattle.formats.proofs.meaning.link_flags.Goals as goal
 
 pub returns : goal.returns

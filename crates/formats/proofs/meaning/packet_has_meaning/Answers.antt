@@ -1,7 +1,6 @@
 -- `meaning::packet_has_meaning` meets its contract: the values at the place, and the packet with them.
 use mathlib.Core.Path.{◌∙◌}
 use Rattle.formats.specs.Meaning.{packet_has_meaning}
-use borrow.Author.Rules.{rules}
 use Rattle.formats.proofs.meaning.packet_has_meaning.Goals as goal
 
 pub returns : goal.returns

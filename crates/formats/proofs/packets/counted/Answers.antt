@@ -1,5 +1,4 @@
 -- `packets::counted` meets its contract: the packet, or zeros.
-use borrow.Author.Rules.{rules}
 use Rattle.model.specs.Memory.{zero_packet}
 use Rattle.network.specs.View.{body_of, packet_of}
 use Rattle.formats.proofs.packets.counted.Goals as goal

@@ -1,6 +1,5 @@
 -- `packets::plain` meets its contract, by the kind.
 use mathlib.Core.Path.{◌∙◌}
-use borrow.Author.Rules.{rules}
 use Rattle.network.specs.View.{request_of, reply_of, packet_of}
 use Rattle.network.proofs.ViewLaws.{body-request, body-reply, body-error, body-other}
 use Rattle.formats.specs.Formats.{plain_body, Known}

@@ -1,20 +1,18 @@
 -- `packets::put_air` meets its contract: the count, and then the first k packets are put.
-use Prim.Native.Nat.{ℕ, ◌+◌, ◌-◌, ◌≤◌}
+use Prim.Native.Nat.{◌+◌}
 use mathlib.Core.Path.{◌≡◌, refl, sym, ◌∙◌}
 use mathlib.Core.List.{[], ◌∷◌, flat_map}
-use lib.ListN.{length, get_or}
+use lib.ListN.{length}
 use native.Mathlib.Omega.{arith}
-use borrow.Author.Rules.{rules}
 use Rattle.base.specs.Lists.{tabulate}
 use Rattle.network.proofs.Bounds.{packets-length}
 use Rattle.base.proofs.Loops.{tabulate-or}
 use Rattle.codec.proofs.ByteLaws.{sets-next}
-use Rattle.model.specs.Memory.{Packet, zero_packet, air_limit}
-use Rattle.network.specs.declared.Air.{Air}
-use Rattle.network.specs.View.{packet_of, packets_of, air_of}
+use Rattle.model.specs.Memory.{zero_packet, air_limit}
+use Rattle.network.specs.View.{packet_of, packets_of}
 use Rattle.network.proofs.PacketLaws.{air-length, packet_in}
 use Rattle.codec.specs.Tables.{padded, counted_bytes}
-use Rattle.codec.proofs.TableLaws.{Put, put-none, put-length, put-more}
+use Rattle.codec.proofs.TableLaws.{put-none, put-length, put-more}
 use Rattle.formats.specs.Written.{packet_bytes}
 use Rattle.formats.specs.Fits.{PacketFits}
 use Rattle.formats.proofs.EntryLaws.{packet-wide, air-past}

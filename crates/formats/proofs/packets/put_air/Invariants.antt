@@ -1,23 +1,12 @@
 -- `packets::put_air` meets its contract: the count, and then the first k packets are put.
 use Prim.Native.Nat.{ℕ, ◌+◌, ◌-◌, ◌≤◌}
-use mathlib.Core.Path.{◌≡◌, refl, sym, ◌∙◌}
-use mathlib.Core.List.{[], ◌∷◌, flat_map}
-use lib.ListN.{length, get_or}
-use native.Mathlib.Omega.{arith}
-use borrow.Author.Rules.{rules}
-use Rattle.base.specs.Lists.{tabulate}
-use Rattle.network.proofs.Bounds.{packets-length}
-use Rattle.base.proofs.Loops.{tabulate-or}
-use Rattle.codec.proofs.ByteLaws.{sets-next}
+use lib.ListN.{get_or}
 use Rattle.model.specs.Memory.{Packet, zero_packet, air_limit}
 use Rattle.network.specs.declared.Air.{Air}
-use Rattle.network.specs.View.{packet_of, packets_of, air_of}
-use Rattle.network.proofs.PacketLaws.{air-length, packet_in}
-use Rattle.codec.specs.Tables.{padded, counted_bytes}
-use Rattle.codec.proofs.TableLaws.{Put, put-none, put-length, put-more}
+use Rattle.network.specs.View.{air_of}
+use Rattle.codec.proofs.TableLaws.{Put}
 use Rattle.formats.specs.Written.{packet_bytes}
 use Rattle.formats.specs.Fits.{PacketFits}
-use Rattle.formats.proofs.EntryLaws.{packet-wide, air-past}
 use Rattle.formats.proofs.packets.put_air.Given as goal
 
 abbrev pub packet_or : Air → ℕ → Packet

@@ -2,7 +2,6 @@
 use mathlib.Core.Path.{refl, ap, subst, ◌∙◌}
 use lib.ListN.{length}
 use native.Mathlib.Omega.{arith}
-use borrow.Author.Rules.{rules}
 use Rattle.codec.specs.Fields.{Fits}
 use Rattle.network.specs.View.{packet_of}
 use Rattle.formats.specs.Formats.{packet_format}

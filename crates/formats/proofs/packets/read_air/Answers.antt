@@ -1,13 +1,7 @@
 -- `packets::read_air` meets its contract: the first k packets are read.
-use Prim.Native.Nat.{◌+◌, ◌-◌, ◌*◌, ◌≤◌}
-use mathlib.Core.Path.{◌≡◌, refl}
+use mathlib.Core.Path.{refl}
 use native.Mathlib.Omega.{arith}
-use borrow.Author.Rules.{rules}
-use Rattle.base.proofs.Loops.{Filled, filled_none, filled_more, filled-all}
-use Rattle.codec.specs.Bytes.{byte_at}
-use Rattle.model.specs.Memory.{air_limit}
-use Rattle.formats.specs.Formats.{packet_wide}
-use Rattle.formats.specs.Stored.{stored_fields}
+use Rattle.base.proofs.Loops.{filled_none, filled_more, filled-all}
 use Rattle.formats.proofs.EntryLaws.{air-stored}
 use Rattle.formats.proofs.packets.read_air.Goals as goal
 

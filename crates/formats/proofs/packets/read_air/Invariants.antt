@@ -1,14 +1,11 @@
 -- `packets::read_air` meets its contract: the first k packets are read.
 use Prim.Native.Nat.{◌+◌, ◌-◌, ◌*◌, ◌≤◌}
-use mathlib.Core.Path.{◌≡◌, refl}
-use native.Mathlib.Omega.{arith}
-use borrow.Author.Rules.{rules}
-use Rattle.base.proofs.Loops.{Filled, filled_none, filled_more, filled-all}
+use mathlib.Core.Path.{◌≡◌}
+use Rattle.base.proofs.Loops.{Filled}
 use Rattle.codec.specs.Bytes.{byte_at}
 use Rattle.model.specs.Memory.{air_limit}
 use Rattle.formats.specs.Formats.{packet_wide}
 use Rattle.formats.specs.Stored.{stored_fields}
-use Rattle.formats.proofs.EntryLaws.{air-stored}
 use Rattle.formats.proofs.packets.read_air.Given as goal
 
 abbrev pub invariant-loop-k : goal.invariant-loop-k

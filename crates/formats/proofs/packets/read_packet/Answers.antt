@@ -1,7 +1,6 @@
 -- `packets::read_packet` meets its contract: the values at the place, and the packet with them.
 use mathlib.Core.Path.{refl, ap, ◌∙◌}
 use native.Mathlib.Omega.{arith}
-use borrow.Author.Rules.{rules}
 use Rattle.formats.specs.Formats.{packet_from}
 use Rattle.formats.proofs.packets.read_packet.Goals as goal
 

@@ -1,6 +1,5 @@
 -- `meaning::has_meaning` meets its contract, test by test.
-use borrow.Author.Rules.{rules}
-use Rattle.base.proofs.Booleans.{not-was-true, was-true, not-was-false, was-false}
+use Rattle.base.proofs.Booleans.{was-true, was-false}
 use Rattle.codec.specs.Bytes.{byte_at}
 use Rattle.layout.specs.Places.{size_at, air_at}
 use Rattle.layout.specs.Meaning.{has_meaning}

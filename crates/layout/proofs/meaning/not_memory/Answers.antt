@@ -2,7 +2,6 @@
 use mathlib.Core.Path.{sym, ap, ◌∙◌}
 use mathlib.Core.Bool.{not}
 use native.Mathlib.Omega.{arith}
-use borrow.Author.Rules.{rules}
 use Rattle.layout.proofs.MeaningLaws.{not-memory-short, not-memory-long}
 use Rattle.layout.proofs.meaning.not_memory.Goals as goal
 

@@ -1,12 +1,8 @@
 -- `meaning::packets_have_meaning` meets its contract: the packets before k have a meaning.
 use Prim.Native.Nat.{◌+◌, ◌*◌, ◌-◌, ◌≤◌}
-use mathlib.Core.Path.{◌≡◌, sym}
+use mathlib.Core.Path.{◌≡◌}
 use mathlib.Core.Bool.{true}
-use native.Mathlib.Omega.{arith}
-use borrow.Author.Rules.{rules}
 use Rattle.base.specs.Lists.{all_below}
-use Rattle.base.proofs.Booleans.{not-was-true, not-was-false}
-use Rattle.base.proofs.Loops.{all_none, all_more, all-ends, all-broken}
 use Rattle.formats.specs.Formats.{packet_wide}
 use Rattle.formats.specs.Meaning.{packet_has_meaning}
 use Rattle.layout.specs.Places.{packets_at}

@@ -1,6 +1,5 @@
 -- `meaning::pair_has_meaning` meets its contract.
 use Rattle.layout.specs.Meaning.{pair_has_meaning}
-use borrow.Author.Rules.{rules}
 use Rattle.layout.proofs.meaning.pair_has_meaning.Goals as goal
 
 pub returns : goal.returns

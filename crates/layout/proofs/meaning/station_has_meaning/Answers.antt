@@ -1,16 +1,9 @@
 -- `meaning::station_has_meaning` meets its contract: the flags for the stations before t have a meaning.
-use Prim.Native.Nat.{◌+◌, ◌*◌, ◌-◌, ◌≤◌}
-use mathlib.Core.Path.{◌≡◌, sym}
-use mathlib.Core.Bool.{true}
+use mathlib.Core.Path.{sym}
 use native.Mathlib.Omega.{arith}
-use borrow.Author.Rules.{rules}
-use Rattle.base.specs.Lists.{all_below}
-use Rattle.base.proofs.Booleans.{not-was-true, was-true, not-was-false, was-false}
+use Rattle.base.proofs.Booleans.{was-true, was-false}
 use Rattle.base.proofs.Loops.{all_none, all_more, all-ends, all-broken}
-use Rattle.codec.specs.Fields.{flags_at}
-use Rattle.formats.specs.Formats.{station_format, station_wide}
-use Rattle.layout.specs.Places.{stations_at}
-use Rattle.layout.specs.Meaning.{pair_has_meaning, station_has_meaning}
+use Rattle.layout.specs.Meaning.{station_has_meaning}
 use Rattle.layout.proofs.meaning.station_has_meaning.Goals as goal
 
 pub returns-then-not-station_flags : goal.returns-then-not-station_flags

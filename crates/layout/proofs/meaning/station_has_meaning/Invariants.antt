@@ -1,16 +1,12 @@
 -- `meaning::station_has_meaning` meets its contract: the flags for the stations before t have a meaning.
 use Prim.Native.Nat.{◌+◌, ◌*◌, ◌-◌, ◌≤◌}
-use mathlib.Core.Path.{◌≡◌, sym}
+use mathlib.Core.Path.{◌≡◌}
 use mathlib.Core.Bool.{true}
-use native.Mathlib.Omega.{arith}
-use borrow.Author.Rules.{rules}
 use Rattle.base.specs.Lists.{all_below}
-use Rattle.base.proofs.Booleans.{not-was-true, not-was-false}
-use Rattle.base.proofs.Loops.{all_none, all_more, all-ends, all-broken}
 use Rattle.codec.specs.Fields.{flags_at}
 use Rattle.formats.specs.Formats.{station_format, station_wide}
 use Rattle.layout.specs.Places.{stations_at}
-use Rattle.layout.specs.Meaning.{pair_has_meaning, station_has_meaning}
+use Rattle.layout.specs.Meaning.{pair_has_meaning}
 use Rattle.layout.proofs.meaning.station_has_meaning.Given as goal
 
 abbrev pub invariant-loop-t : goal.invariant-loop-t

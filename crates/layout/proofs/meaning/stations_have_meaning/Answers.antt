@@ -1,13 +1,8 @@
 -- `meaning::stations_have_meaning` meets its contract: the flags of the stations before i have a meaning.
-use Prim.Native.Nat.{◌-◌, ◌≤◌}
-use mathlib.Core.Path.{◌≡◌, sym}
-use mathlib.Core.Bool.{true}
+use mathlib.Core.Path.{sym}
 use native.Mathlib.Omega.{arith}
-use borrow.Author.Rules.{rules}
-use Rattle.base.specs.Lists.{all_below}
-use Rattle.base.proofs.Booleans.{not-was-true, was-true, not-was-false, was-false}
+use Rattle.base.proofs.Booleans.{was-true, was-false}
 use Rattle.base.proofs.Loops.{all_none, all_more, all-ends, all-broken}
-use Rattle.layout.specs.Meaning.{station_has_meaning}
 use Rattle.layout.proofs.meaning.stations_have_meaning.Goals as goal
 
 pub loop-i-init : goal.loop-i-init

@@ -1,12 +1,8 @@
 -- `meaning::stations_have_meaning` meets its contract: the flags of the stations before i have a meaning.
 use Prim.Native.Nat.{◌-◌, ◌≤◌}
-use mathlib.Core.Path.{◌≡◌, sym}
+use mathlib.Core.Path.{◌≡◌}
 use mathlib.Core.Bool.{true}
-use native.Mathlib.Omega.{arith}
-use borrow.Author.Rules.{rules}
 use Rattle.base.specs.Lists.{all_below}
-use Rattle.base.proofs.Booleans.{not-was-true, not-was-false}
-use Rattle.base.proofs.Loops.{all_none, all_more, all-ends, all-broken}
 use Rattle.layout.specs.Meaning.{station_has_meaning}
 use Rattle.layout.proofs.meaning.stations_have_meaning.Given as goal
 

@@ -1,6 +1,5 @@
 -- `memory::load` meets its contract: memory of no stations, or what the bytes read as.
 use mathlib.Core.Path.{◌∙◌}
-use borrow.Author.Rules.{rules}
 use Rattle.base.proofs.Booleans.{was-true, was-false}
 use Rattle.layout.specs.Meaning.{stored_network}
 use Rattle.layout.proofs.MeaningLaws.{memory-long}

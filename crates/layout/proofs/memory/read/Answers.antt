@@ -1,6 +1,5 @@
 -- `memory::read` meets its contract, part by part.
 use lib.ListN.{get_or}
-use borrow.Author.Rules.{rules}
 use Rattle.network.specs.View.{view}
 use Rattle.layout.specs.Places.{size_at, limit_at}
 use Rattle.layout.specs.Stored.{network_in}

@@ -1,13 +1,8 @@
 -- `memory::read_labels` meets its contract: s, m and d of the first i labels are read.
-use Prim.Native.Nat.{◌+◌, ◌-◌, ◌*◌, ◌≤◌}
 use mathlib.Core.Path.{refl, ap}
 use native.Mathlib.Omega.{arith}
-use borrow.Author.Rules.{rules}
-use Rattle.base.proofs.Loops.{Filled, filled_none, filled_more, filled-all}
+use Rattle.base.proofs.Loops.{filled_none, filled_more, filled-all}
 use Rattle.label.specs.declared.Label.{Label}
-use Rattle.formats.specs.Formats.{label_wide}
-use Rattle.formats.specs.Stored.{stored_label}
-use Rattle.layout.specs.Places.{labels_at}
 use Rattle.layout.proofs.StoredLaws.{labels-stored}
 use Rattle.layout.proofs.memory.read_labels.Goals as goal
 

@@ -1,13 +1,8 @@
 -- `memory::read_links` meets its contract: the first i links are read.
-use Prim.Native.Nat.{◌+◌, ◌-◌, ◌*◌, ◌≤◌}
 use mathlib.Core.Path.{refl}
 use native.Mathlib.Omega.{arith}
-use borrow.Author.Rules.{rules}
-use Rattle.base.proofs.Loops.{Filled, filled_none, filled_more, filled-all}
+use Rattle.base.proofs.Loops.{filled_none, filled_more, filled-all}
 use Rattle.codec.specs.Tables.{table_at}
-use Rattle.formats.specs.Formats.{link_wide}
-use Rattle.formats.specs.Stored.{stored_link}
-use Rattle.layout.specs.Places.{links_at}
 use Rattle.layout.proofs.memory.read_links.Goals as goal
 
 pub loop-i-init : goal.loop-i-init

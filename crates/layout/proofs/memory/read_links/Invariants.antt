@@ -1,10 +1,6 @@
 -- `memory::read_links` meets its contract: the first i links are read.
 use Prim.Native.Nat.{◌+◌, ◌-◌, ◌*◌, ◌≤◌}
-use mathlib.Core.Path.{refl}
-use native.Mathlib.Omega.{arith}
-use borrow.Author.Rules.{rules}
-use Rattle.base.proofs.Loops.{Filled, filled_none, filled_more, filled-all}
-use Rattle.codec.specs.Tables.{table_at}
+use Rattle.base.proofs.Loops.{Filled}
 use Rattle.formats.specs.Formats.{link_wide}
 use Rattle.formats.specs.Stored.{stored_link}
 use Rattle.layout.specs.Places.{links_at}

@@ -1,11 +1,7 @@
 -- `memory::read_records` meets its contract: the first i records are read.
 use Prim.Native.Nat.{◌+◌, ◌-◌, ◌*◌, ◌≤◌}
-use mathlib.Core.Path.{refl}
 use mathlib.Core.List.{map}
-use native.Mathlib.Omega.{arith}
-use borrow.Author.Rules.{rules}
-use Rattle.base.proofs.Loops.{Filled, filled_none, filled-map-more, filled-all}
-use Rattle.codec.specs.Tables.{table_at}
+use Rattle.base.proofs.Loops.{Filled}
 use Rattle.network.specs.View.{record_of}
 use Rattle.formats.specs.Formats.{record_wide}
 use Rattle.formats.specs.Stored.{stored_record}

@@ -1,15 +1,10 @@
 -- `memory::read_rows` meets its contract: the first i rows are read.
-use Prim.Native.Nat.{◌+◌, ◌-◌, ◌*◌, ◌≤◌}
 use mathlib.Core.Path.{refl}
 use mathlib.Core.List.{map}
 use native.Mathlib.Omega.{arith}
-use borrow.Author.Rules.{rules}
-use Rattle.base.proofs.Loops.{Filled, filled_none, filled-map-more, filled-all}
+use Rattle.base.proofs.Loops.{filled_none, filled-map-more, filled-all}
 use Rattle.codec.specs.Tables.{table_at}
 use Rattle.rows.specs.View.{row_of}
-use Rattle.formats.specs.Formats.{row_wide}
-use Rattle.formats.specs.Stored.{stored_row}
-use Rattle.layout.specs.Places.{rows_at}
 use Rattle.layout.proofs.memory.read_rows.Goals as goal
 
 pub loop-i-init : goal.loop-i-init

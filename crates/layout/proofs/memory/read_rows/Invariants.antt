@@ -1,11 +1,7 @@
 -- `memory::read_rows` meets its contract: the first i rows are read.
 use Prim.Native.Nat.{◌+◌, ◌-◌, ◌*◌, ◌≤◌}
-use mathlib.Core.Path.{refl}
 use mathlib.Core.List.{map}
-use native.Mathlib.Omega.{arith}
-use borrow.Author.Rules.{rules}
-use Rattle.base.proofs.Loops.{Filled, filled_none, filled-map-more, filled-all}
-use Rattle.codec.specs.Tables.{table_at}
+use Rattle.base.proofs.Loops.{Filled}
 use Rattle.rows.specs.View.{row_of}
 use Rattle.formats.specs.Formats.{row_wide}
 use Rattle.formats.specs.Stored.{stored_row}

@@ -1,15 +1,11 @@
 -- `memory::read_stations` meets its contract: what the first i stations keep is read.
 use Prim.Native.Nat.{◌+◌, ◌-◌, ◌*◌, ◌≤◌}
-use mathlib.Core.Path.{refl, ap, ◌∙◌}
 use mathlib.Core.List.{map}
-use native.Mathlib.Omega.{arith}
-use borrow.Author.Rules.{rules}
-use Rattle.base.proofs.Loops.{Filled, filled_none, filled_more, filled-map-more, filled-all}
+use Rattle.base.proofs.Loops.{Filled}
 use Rattle.network.specs.declared.RequestNumber.{RequestNumber}
-use Rattle.formats.specs.Formats.{Station, station_wide}
+use Rattle.formats.specs.Formats.{station_wide}
 use Rattle.formats.specs.Stored.{stored_station}
 use Rattle.layout.specs.Places.{stations_at}
-use Rattle.layout.proofs.StoredLaws.{stations-stored}
 use Rattle.layout.proofs.memory.read_stations.Given as goal
 
 abbrev pub invariant-loop-i : goal.invariant-loop-i

@@ -5,7 +5,6 @@ use mathlib.Core.List.{List, [], ◌∷◌, flat_map}
 use lib.ListN.{length, length-map}
 use lib.Seq.{sets}
 use native.Mathlib.Omega.{arith}
-use borrow.Author.Rules.{rules}
 use Rattle.codec.proofs.ByteLaws.{sets_over}
 use Rattle.network.specs.declared.RequestNumber.{RequestNumber}
 use Rattle.network.specs.View.{view}

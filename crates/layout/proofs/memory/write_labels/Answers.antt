@@ -1,16 +1,12 @@
 -- `memory::write_labels` meets its contract: the first i entries are put.
-use Prim.Native.Nat.{◌-◌, ◌≤◌}
 use mathlib.Core.Path.{refl}
-use lib.ListN.{length}
 use native.Mathlib.Omega.{arith}
-use borrow.Author.Rules.{rules}
 use Rattle.codec.specs.Fields.{Fits}
 use Rattle.codec.proofs.FieldLaws.{written-wide}
-use Rattle.codec.proofs.TableLaws.{Put, put-none, put-length, put-more, put_all}
+use Rattle.codec.proofs.TableLaws.{put-none, put-length, put-more, put_all}
 use Rattle.network.specs.View.{label_of}
 use Rattle.formats.specs.Formats.{label_format}
 use Rattle.formats.specs.Written.{label_bytes}
-use Rattle.layout.specs.Places.{layout_length, labels_at}
 use Rattle.layout.proofs.memory.write_labels.Goals as goal
 
 pub loop-i-init : goal.loop-i-init

@@ -1,14 +1,9 @@
 -- `memory::write_links` meets its contract: the first i entries are put.
 use Prim.Native.Nat.{◌-◌, ◌≤◌}
-use mathlib.Core.Path.{refl}
 use mathlib.Core.Bool.{false}
 use lib.ListN.{length, get_or}
-use native.Mathlib.Omega.{arith}
-use borrow.Author.Rules.{rules}
-use Rattle.base.proofs.Loops.{tabulate-is}
 use Rattle.codec.specs.Fields.{Fits}
-use Rattle.codec.proofs.FieldLaws.{written-wide}
-use Rattle.codec.proofs.TableLaws.{Put, put-none, put-length, put-more, put_all}
+use Rattle.codec.proofs.TableLaws.{Put}
 use Rattle.formats.specs.Formats.{link_format}
 use Rattle.formats.specs.Written.{link_bytes}
 use Rattle.layout.specs.Places.{layout_length, links_at}

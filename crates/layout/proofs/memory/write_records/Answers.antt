@@ -1,17 +1,13 @@
 -- `memory::write_records` meets its contract: the first i entries are put.
-use Prim.Native.Nat.{◌-◌, ◌≤◌}
 use mathlib.Core.Path.{refl}
-use lib.ListN.{length, get_or}
 use native.Mathlib.Omega.{arith}
-use borrow.Author.Rules.{rules}
 use Rattle.base.proofs.Loops.{tabulate-map}
 use Rattle.codec.specs.Fields.{Fits}
 use Rattle.codec.proofs.FieldLaws.{written-wide}
-use Rattle.codec.proofs.TableLaws.{Put, put-none, put-length, put-more, put_all}
+use Rattle.codec.proofs.TableLaws.{put-none, put-length, put-more, put_all}
 use Rattle.network.specs.View.{zero_record, record_of}
 use Rattle.formats.specs.Formats.{record_format}
 use Rattle.formats.specs.Written.{record_bytes}
-use Rattle.layout.specs.Places.{layout_length, records_at}
 use Rattle.layout.proofs.memory.write_records.Goals as goal
 
 pub loop-i-init : goal.loop-i-init

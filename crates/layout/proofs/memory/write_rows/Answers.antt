@@ -1,16 +1,12 @@
 -- `memory::write_rows` meets its contract: the first i entries are put.
-use Prim.Native.Nat.{◌-◌, ◌≤◌}
 use mathlib.Core.Path.{refl}
-use lib.ListN.{length, get_or}
 use native.Mathlib.Omega.{arith}
-use borrow.Author.Rules.{rules}
 use Rattle.base.proofs.Loops.{tabulate-map}
-use Rattle.codec.proofs.TableLaws.{Put, put-none, put-length, put-more, put_all}
+use Rattle.codec.proofs.TableLaws.{put-none, put-length, put-more, put_all}
 use Rattle.rows.specs.View.{zero_row, row_of}
 use Rattle.formats.specs.Written.{row_bytes}
 use Rattle.formats.specs.Fits.{RowFits}
 use Rattle.formats.proofs.EntryLaws.{row-wide}
-use Rattle.layout.specs.Places.{layout_length, rows_at}
 use Rattle.layout.proofs.memory.write_rows.Goals as goal
 
 pub loop-i-init : goal.loop-i-init

@@ -1,20 +1,12 @@
 -- `memory::write_stations` meets its contract: the first i entries are put.
-use Prim.Native.Nat.{ℕ, ◌-◌, ◌≤◌}
-use mathlib.Core.Path.{◌≡◌, refl, sym}
-use mathlib.Core.Bool.{false}
-use lib.ListN.{length, get_or, get_or-map}
-use native.Mathlib.Omega.{arith}
-use borrow.Author.Rules.{rules}
+use Prim.Native.Nat.{◌-◌, ◌≤◌}
+use lib.ListN.{length}
 use Rattle.codec.specs.Fields.{Fits}
-use Rattle.codec.proofs.FieldLaws.{written-wide}
-use Rattle.codec.proofs.TableLaws.{Put, put-none, put-length, put-more, put_all}
-use Rattle.network.specs.declared.RequestNumber.{RequestNumber}
-use Rattle.network.specs.View as view
+use Rattle.codec.proofs.TableLaws.{Put}
 use Rattle.formats.specs.Formats.{station_format}
 use Rattle.formats.specs.Written.{station_bytes}
-use Rattle.layout.specs.declared.memory.Stations.{Stations}
 use Rattle.layout.specs.Places.{layout_length, stations_at}
-use Rattle.layout.specs.Stations.{station_at, stations_from}
+use Rattle.layout.specs.Stations.{station_at}
 use Rattle.layout.proofs.memory.write_stations.Given as goal
 
 abbrev pub invariant-loop-i : goal.invariant-loop-i

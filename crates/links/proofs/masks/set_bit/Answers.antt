@@ -1,6 +1,5 @@
 -- `masks::set_bit` meets its contract: one bit by or, or by and.
 use native.Mathlib.Omega.{arith}
-use borrow.Author.Rules.{rules}
 use Rattle.links.proofs.Bits.{bit-with, bit-without}
 use Rattle.links.proofs.masks.set_bit.Goals as goal
 

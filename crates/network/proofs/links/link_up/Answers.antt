@@ -1,6 +1,5 @@
 -- `links::link_up` meets its contract: two stations, and what their place says.
 use mathlib.Core.Path.{◌∙◌}
-use borrow.Author.Rules.{rules}
 use Rattle.model.proofs.Links.{link_at}
 use Rattle.network.proofs.links.link_up.Goals as goal
 

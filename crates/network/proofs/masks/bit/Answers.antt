@@ -1,5 +1,4 @@
 -- `masks::bit` meets its contract: a shift and a mask of one bit.
-use borrow.Author.Rules.{rules}
 use Rattle.network.proofs.Bits.{bit-read}
 use Rattle.network.proofs.masks.bit.Goals as goal
 

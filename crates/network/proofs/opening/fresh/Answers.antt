@@ -1,14 +1,12 @@
 -- `opening::fresh` meets its contract: the stations below t have their own labels.
-use Prim.Native.Nat.{◌-◌, ◌≤◌}
 use mathlib.Core.Path.{◌≡◌, refl, ◌∙◌}
 use lib.ListN.{length-set}
 use native.Mathlib.Omega.{arith}
-use borrow.Author.Rules.{rules}
 use Rattle.base.specs.Lists.{tabulate}
 use Rattle.label.specs.Label.{unassigned}
-use Rattle.model.specs.Memory.{fresh_labels, fresh_record}
-use Rattle.network.specs.View.{record_of, packets_of, label_of}
-use Rattle.network.proofs.ViewLaws.{Labels, labels-none, labels-own, view-fresh}
+use Rattle.model.specs.Memory.{fresh_record}
+use Rattle.network.specs.View.{record_of, packets_of}
+use Rattle.network.proofs.ViewLaws.{labels-none, labels-own, view-fresh}
 use Rattle.network.proofs.opening.fresh.Goals as goal
 
 pub loop-t-init : goal.loop-t-init

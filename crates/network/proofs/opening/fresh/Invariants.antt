@@ -1,14 +1,10 @@
 -- `opening::fresh` meets its contract: the stations below t have their own labels.
 use Prim.Native.Nat.{◌-◌, ◌≤◌}
-use mathlib.Core.Path.{◌≡◌, refl, ◌∙◌}
-use lib.ListN.{length-set}
-use native.Mathlib.Omega.{arith}
-use borrow.Author.Rules.{rules}
+use mathlib.Core.Path.{◌≡◌}
 use Rattle.base.specs.Lists.{tabulate}
-use Rattle.label.specs.Label.{unassigned}
-use Rattle.model.specs.Memory.{fresh_labels, fresh_record}
-use Rattle.network.specs.View.{record_of, packets_of, label_of}
-use Rattle.network.proofs.ViewLaws.{Labels, labels-none, labels-own, view-fresh}
+use Rattle.model.specs.Memory.{fresh_labels}
+use Rattle.network.specs.View.{label_of}
+use Rattle.network.proofs.ViewLaws.{Labels}
 use Rattle.network.proofs.opening.fresh.Given as goal
 
 abbrev pub invariant-loop-t : goal.invariant-loop-t

@@ -1,13 +1,11 @@
 -- `packets::apart_count` meets its contract: so many of the first k packets are not between the two.
-use Prim.Native.Nat.{◌-◌, ◌≤◌}
 use mathlib.Core.Path.{◌≡◌, refl, ap, ◌∙◌}
 use mathlib.Core.Bool.{true, false, not}
 use mathlib.Core.List.{[], ◌∷◌}
-use lib.ListN.{length, length-append}
+use lib.ListN.{length-append}
 use native.Mathlib.Omega.{arith}
-use borrow.Author.Rules.{rules}
 use Rattle.base.specs.Lists.{keep, tabulate}
-use Rattle.base.proofs.Booleans.{cases, not-was-true, was-true, not-was-false, was-false}
+use Rattle.base.proofs.Booleans.{was-true, was-false}
 use Rattle.base.proofs.Loops.{keep-yes, keep-no}
 use Rattle.network.specs.View.{packets_of}
 use Rattle.network.proofs.PacketLaws.{packet_in, apart}

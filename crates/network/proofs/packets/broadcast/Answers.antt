@@ -1,13 +1,11 @@
 -- `packets::broadcast` meets its contract: the neighbours below b have their copies.
-use Prim.Native.Nat.{ℕ, ◌+◌, ◌-◌, ◌≤◌, ◌<◌}
+use Prim.Native.Nat.{ℕ, ◌+◌, ◌≤◌, ◌<◌}
 use mathlib.Core.Path.{◌≡◌, sym, ap, ◌∙◌}
 use mathlib.Core.Bool.{Bool, true}
-use mathlib.Core.List.{List, [], ◌∷◌, ◌++◌, map, append-nil}
+use mathlib.Core.List.{List, [], ◌∷◌, append-nil}
 use lib.ListN.{length, length-append}
 use native.Mathlib.Omega.{arith}
-use borrow.Author.Rules.{rules}
 use Rattle.base.specs.Lists.{below}
-use Rattle.base.proofs.Booleans.{cases}
 use Rattle.base.proofs.Loops.{below-yes, below-no, below_next, map-below-yes, map-below-no}
 use Rattle.model.specs.Memory as model
 use Rattle.model.specs.Memory.{link_in, air_limit}
@@ -15,7 +13,7 @@ use Rattle.model.specs.Calls.{packet}
 use Rattle.model.proofs.Links.{link_at}
 use Rattle.network.specs.View.{body_of, packets_of}
 use Rattle.network.proofs.Bounds.{array-length}
-use Rattle.network.proofs.PacketLaws.{Held, held_more}
+use Rattle.network.proofs.PacketLaws.{held_more}
 use Rattle.network.proofs.packets.broadcast.Goals as goal
 use Rattle.network.proofs.packets.broadcast.Goals.{then-joined, else-joined}
 

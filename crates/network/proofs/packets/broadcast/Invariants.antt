@@ -1,20 +1,13 @@
 -- `packets::broadcast` meets its contract: the neighbours below b have their copies.
-use Prim.Native.Nat.{ℕ, ◌+◌, ◌-◌, ◌≤◌, ◌<◌}
-use mathlib.Core.Path.{◌≡◌, sym, ap, ◌∙◌}
-use mathlib.Core.List.{[], ◌∷◌, ◌++◌, map, append-nil}
-use lib.ListN.{length, length-append}
-use native.Mathlib.Omega.{arith}
-use borrow.Author.Rules.{rules}
+use Prim.Native.Nat.{◌+◌, ◌-◌, ◌≤◌}
+use mathlib.Core.Path.{◌≡◌}
+use mathlib.Core.List.{◌++◌, map}
+use lib.ListN.{length}
 use Rattle.base.specs.Lists.{below}
-use Rattle.base.proofs.Booleans.{cases}
-use Rattle.base.proofs.Loops.{below-yes, below-no, below_next, map-below-yes, map-below-no}
-use Rattle.model.specs.Memory as model
-use Rattle.model.specs.Memory.{link_in, air_limit}
+use Rattle.model.specs.Memory.{link_in}
 use Rattle.model.specs.Calls.{packet}
-use Rattle.model.proofs.Links.{link_at}
 use Rattle.network.specs.View.{body_of, packets_of}
-use Rattle.network.proofs.Bounds.{array-length}
-use Rattle.network.proofs.PacketLaws.{Held, held_more}
+use Rattle.network.proofs.PacketLaws.{Held}
 use Rattle.network.proofs.packets.broadcast.Given as goal
 
 abbrev pub invariant-loop-b : goal.invariant-loop-b

@@ -1,6 +1,5 @@
 -- `packets::error` meets its contract: its kind says so.
 use mathlib.Core.Path.{refl}
-use borrow.Author.Rules.{rules}
 use Rattle.network.specs.View.{body_of}
 use Rattle.network.proofs.packets.error.Goals as goal
 

@@ -1,5 +1,5 @@
 -- `packets::remove_from` meets its contract: a turn moves one packet more.
-use Rattle.std.proofs.Common.{◌+◌, ◌<◌, ◌≡◌, length, sym, ap, ◌∙◌, arith}
+use Rattle.std.proofs.Common.{◌+◌, ◌<◌, length, sym, ◌∙◌, arith}
 use Rattle.std.proofs.Math.ListN.{length-set}
 use Rattle.base.proofs.Loops.{removed-none, removed-more}
 use Rattle.network.proofs.packets.remove_from.Goals as goal

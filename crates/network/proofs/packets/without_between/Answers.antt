@@ -1,15 +1,13 @@
 -- `packets::without_between` meets its contract: of the first k packets those that stay are the first ones now.
-use Prim.Native.Nat.{◌-◌, ◌≤◌}
 use mathlib.Core.Path.{◌≡◌, refl, ap}
 use mathlib.Core.Bool.{true, false, not}
 use native.Mathlib.Omega.{arith}
-use borrow.Author.Rules.{rules}
 use Rattle.base.specs.Lists.{keep, tabulate}
-use Rattle.base.proofs.Booleans.{cases, not-was-true, was-true, not-was-false, was-false}
+use Rattle.base.proofs.Booleans.{was-true, was-false}
 use Rattle.base.proofs.Loops.{keep-yes, keep-no}
 use Rattle.network.specs.View.{packets_of}
 use Rattle.network.proofs.Bounds.{array-length}
-use Rattle.network.proofs.PacketLaws.{packet_in, apart, Held, held_more, held-list}
+use Rattle.network.proofs.PacketLaws.{packet_in, apart, held_more, held-list}
 use Rattle.network.proofs.packets.without_between.Goals as goal
 use Rattle.network.proofs.packets.without_between.Goals.{then-not-is_between, else-not-is_between}
 

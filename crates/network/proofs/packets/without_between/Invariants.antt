@@ -1,15 +1,7 @@
 -- `packets::without_between` meets its contract: of the first k packets those that stay are the first ones now.
 use Prim.Native.Nat.{◌-◌, ◌≤◌}
-use mathlib.Core.Path.{◌≡◌, refl, ap}
-use mathlib.Core.Bool.{true, false, not}
-use native.Mathlib.Omega.{arith}
-use borrow.Author.Rules.{rules}
 use Rattle.base.specs.Lists.{keep, tabulate}
-use Rattle.base.proofs.Booleans.{cases, not-was-true, not-was-false}
-use Rattle.base.proofs.Loops.{keep-yes, keep-no}
-use Rattle.network.specs.View.{packets_of}
-use Rattle.network.proofs.Bounds.{array-length}
-use Rattle.network.proofs.PacketLaws.{packet_in, apart, Held, held_more, held-list}
+use Rattle.network.proofs.PacketLaws.{packet_in, apart, Held}
 use Rattle.network.proofs.packets.without_between.Given as goal
 
 abbrev pub invariant-loop-k : goal.invariant-loop-k

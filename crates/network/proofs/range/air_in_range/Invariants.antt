@@ -1,16 +1,11 @@
 -- `range::air_in_range` meets its contract: the packets before place k pass.
 use Prim.Native.Nat.{◌-◌, ◌≤◌}
-use mathlib.Core.Path.{◌≡◌, sym, ◌∙◌}
+use mathlib.Core.Path.{◌≡◌}
 use mathlib.Core.Bool.{true}
 use lib.ListN.{get_or}
-use native.Mathlib.Omega.{arith}
-use borrow.Author.Tests.{le-leb, lt-leb}
-use borrow.Author.Rules.{rules}
 use Rattle.base.specs.Lists.{all_below}
-use Rattle.base.proofs.Booleans.{not-was-true, not-was-false}
-use Rattle.base.proofs.Loops.{tabulate-length, all_none, all_more, all-ends, all-broken, all-tabulate}
-use Rattle.model.specs.Memory.{packet_in_range, air_in_range}
-use Rattle.network.specs.View.{zero_packet, packet_of, packets_of}
+use Rattle.model.specs.Memory.{packet_in_range}
+use Rattle.network.specs.View.{zero_packet, packet_of}
 use Rattle.network.proofs.range.air_in_range.Given as goal
 
 abbrev pub invariant-loop-k : goal.invariant-loop-k

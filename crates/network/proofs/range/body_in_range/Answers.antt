@@ -1,7 +1,6 @@
 -- `range::body_in_range` meets its contract: each answer by its kind of body.
 use mathlib.Core.Path.{sym, ◌∙◌}
 use native.Mathlib.Omega.{arith}
-use borrow.Author.Rules.{rules}
 use Rattle.network.proofs.RangeLaws.{range_none, range-past, range-error, range-headed}
 use Rattle.network.proofs.range.body_in_range.Goals as goal
 

@@ -2,8 +2,7 @@
 use mathlib.Core.Path.{◌≡◌}
 use mathlib.Core.Bool.{true}
 use borrow.Author.Tests.{eq-eqb, ne_eqb}
-use borrow.Author.Rules.{rules}
-use Rattle.base.proofs.Booleans.{not-was-true, was-true, not-was-false, was-false}
+use Rattle.base.proofs.Booleans.{was-true, was-false}
 use Rattle.label.specs.Label.{in_range}
 use Rattle.model.specs.Memory.{row_in_range, cell_in_range}
 use Rattle.rows.specs.View.{row_of}

@@ -1,14 +1,10 @@
 -- `range::entries_in_range` meets its contract: the entries before place k pass.
 use Prim.Native.Nat.{◌-◌, ◌≤◌}
-use mathlib.Core.Path.{◌≡◌, sym, ◌∙◌}
+use mathlib.Core.Path.{◌≡◌}
 use mathlib.Core.Bool.{true}
-use native.Mathlib.Omega.{arith}
-use borrow.Author.Rules.{rules}
 use Rattle.base.specs.Lists.{all_below}
-use Rattle.base.proofs.Booleans.{not-was-true, not-was-false}
-use Rattle.base.proofs.Loops.{all_none, all_more, all-ends, all-broken, all-tabulate}
 use Rattle.model.specs.Memory.{successor_in_range}
-use Rattle.rows.specs.View.{entry_of, row_of}
+use Rattle.rows.specs.View.{entry_of}
 use Rattle.network.proofs.range.entries_in_range.Given as goal
 
 abbrev pub invariant-loop-k : goal.invariant-loop-k

@@ -1,7 +1,6 @@
 -- `range::entry_in_range` meets its contract: each answer by its part of the definition.
 use mathlib.Core.Path.{sym}
 use borrow.Author.Tests.{lt-ltb, le-ltb, eq-eqb, ne_eqb}
-use borrow.Author.Rules.{rules}
 use Rattle.model.specs.Memory.{successor_in_range, names}
 use Rattle.network.proofs.range.entry_in_range.Goals as goal
 

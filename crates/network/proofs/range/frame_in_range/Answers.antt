@@ -1,8 +1,7 @@
 -- `range::frame_in_range` meets its contract: each answer by its part of the definition; n is at most 16 past the first.
 use mathlib.Core.Path.{◌≡◌}
 use mathlib.Core.Bool.{true}
-use borrow.Author.Rules.{rules}
-use Rattle.base.proofs.Booleans.{not-was-true, was-true, not-was-false, was-false}
+use Rattle.base.proofs.Booleans.{was-true, was-false}
 use Rattle.model.specs.Memory.{size_in_range}
 use Rattle.network.proofs.RangeLaws.{size-at-most}
 use Rattle.network.proofs.range.frame_in_range.Goals as goal

@@ -1,6 +1,5 @@
 -- `range::head_in_range` meets its contract: each answer by its part of the definition.
 use borrow.Author.Tests.{lt-ltb, le-ltb}
-use borrow.Author.Rules.{rules}
 use Rattle.model.specs.Memory.{head_in_range}
 use Rattle.network.proofs.RangeLaws.{over_zero}
 use Rattle.network.proofs.range.head_in_range.Goals as goal

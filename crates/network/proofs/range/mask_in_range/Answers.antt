@@ -4,7 +4,6 @@ use lib.Dec.{ltb}
 use lib.Pow.{shl_exact}
 use native.Mathlib.Nat.{one-mul}
 use native.Mathlib.Omega.{arith}
-use borrow.Author.Rules.{rules}
 use Rattle.network.proofs.range.mask_in_range.Goals as goal
 
 pub returns : goal.returns

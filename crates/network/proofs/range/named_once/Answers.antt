@@ -1,12 +1,8 @@
 -- `range::named_once` meets its contract: each entry before place k is the first that names its station.
-use Prim.Native.Nat.{◌-◌, ◌≤◌}
-use mathlib.Core.Path.{◌≡◌, sym, ◌∙◌}
-use mathlib.Core.Bool.{true}
+use mathlib.Core.Path.{sym, ◌∙◌}
 use native.Mathlib.Omega.{arith}
-use borrow.Author.Rules.{rules}
-use Rattle.base.specs.Lists.{all_below}
 use Rattle.base.proofs.Loops.{all_none, all_more, all-ends, all-broken}
-use Rattle.network.proofs.RangeLaws.{first, all_first, named-before, not-before}
+use Rattle.network.proofs.RangeLaws.{all_first, named-before, not-before}
 use Rattle.network.proofs.range.named_once.Goals as goal
 
 pub loop-k-init : goal.loop-k-init

@@ -1,12 +1,9 @@
 -- `range::named_once` meets its contract: each entry before place k is the first that names its station.
 use Prim.Native.Nat.{◌-◌, ◌≤◌}
-use mathlib.Core.Path.{◌≡◌, sym, ◌∙◌}
+use mathlib.Core.Path.{◌≡◌}
 use mathlib.Core.Bool.{true}
-use native.Mathlib.Omega.{arith}
-use borrow.Author.Rules.{rules}
 use Rattle.base.specs.Lists.{all_below}
-use Rattle.base.proofs.Loops.{all_none, all_more, all-ends, all-broken}
-use Rattle.network.proofs.RangeLaws.{first, all_first, named-before, not-before}
+use Rattle.network.proofs.RangeLaws.{first}
 use Rattle.network.proofs.range.named_once.Given as goal
 
 abbrev pub invariant-loop-k : goal.invariant-loop-k

@@ -1,6 +1,5 @@
 -- `range::packet_in_range` meets its contract: each answer by its part of the definition.
 use borrow.Author.Tests.{lt-ltb, le-ltb, eq-eqb, ne_eqb}
-use borrow.Author.Rules.{rules}
 use Rattle.model.specs.Memory.{packet_in_range}
 use Rattle.network.specs.View.{packet_of}
 use Rattle.network.proofs.range.packet_in_range.Goals as goal

@@ -1,6 +1,5 @@
 -- `range::place_in_range` meets its contract: past n nothing is tested.
 use borrow.Author.Tests.{le-leb, lt-leb}
-use borrow.Author.Rules.{rules}
 use Rattle.network.proofs.range.place_in_range.Goals as goal
 
 pub returns-then-n-t : goal.returns-then-n-t

@@ -1,6 +1,5 @@
 -- `range::record_in_range` meets its contract: each answer by its part of the definition.
 use borrow.Author.Tests.{lt-ltb, le-ltb}
-use borrow.Author.Rules.{rules}
 use Rattle.model.specs.Memory.{record_in_range}
 use Rattle.network.specs.View.{record_of}
 use Rattle.network.proofs.range.record_in_range.Goals as goal

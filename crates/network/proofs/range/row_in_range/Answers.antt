@@ -1,7 +1,6 @@
 -- `range::row_in_range` meets its contract: each answer by its part of the definition.
 use borrow.Author.Tests.{le-leb, lt-leb}
-use borrow.Author.Rules.{rules}
-use Rattle.base.proofs.Booleans.{not-was-true, was-true, not-was-false, was-false}
+use Rattle.base.proofs.Booleans.{was-true, was-false}
 use Rattle.base.proofs.Loops.{tabulate-length}
 use Rattle.model.specs.Memory.{row_in_range}
 use Rattle.rows.specs.View.{row_of}

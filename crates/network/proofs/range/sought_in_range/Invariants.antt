@@ -1,14 +1,10 @@
 -- `range::sought_in_range` meets its contract: the destinations before place i pass.
 use Prim.Native.Nat.{◌-◌, ◌≤◌}
-use mathlib.Core.Path.{◌≡◌, sym}
+use mathlib.Core.Path.{◌≡◌}
 use mathlib.Core.Bool.{true}
 use lib.ListN.{get_or}
 use lib.Dec.{ltb}
-use native.Mathlib.Omega.{arith}
-use borrow.Author.Tests.{lt-ltb, le-ltb}
-use borrow.Author.Rules.{rules}
 use Rattle.base.specs.Lists.{all_below}
-use Rattle.base.proofs.Loops.{all_none, all_more, all-ends, all-broken}
 use Rattle.network.proofs.range.sought_in_range.Given as goal
 
 abbrev pub invariant-loop-i : goal.invariant-loop-i
