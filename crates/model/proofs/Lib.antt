@@ -17,3 +17,4 @@ pub mod Tallies
 pub mod HistoryLaws
 pub mod PreviewLaws
 pub mod Narrowing
+pub mod SampleLaws

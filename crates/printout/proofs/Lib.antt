@@ -1,1 +1,2 @@
 pub mod RehearsalLaws
+pub mod SampleLaws

@@ -86,7 +86,8 @@ fn put_rehearsal(
     ensures length_le_printout_room { (result.length ≤ printout_room) × (result.tally.calls ≤ event_limit) }
 {
     let mut lines = [0u64; EVENT_LIMIT];
-    let ran = run(fresh(n, start, limit), false, kinds, operands, &mut lines);
+    let memory = fresh(n, start, limit);
+    let ran = run(memory, false, kinds, operands, &mut lines);
     let tally = tally_of(&lines, kinds.len());
     let end = put_event_lines(out, kinds, operands, &lines);
     let length = put_label_lines(out, end, ran.memory);

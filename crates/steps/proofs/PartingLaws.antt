@@ -1,5 +1,5 @@
 -- Down, and an error delivered, as a turn of the run makes them.
-use Prim.Native.Nat.{ℕ, zero, ◌+◌, ◌-◌, ◌%◌, ◌<◌}
+use Prim.Native.Nat.{ℕ, ◌+◌, ◌-◌, ◌%◌, ◌<◌}
 use mathlib.Core.Path.{◌≡◌, refl, sym, ap, subst, ◌∙◌}
 use mathlib.Core.Logic.{◌≢◌, ◌⊎◌, inl, inr}
 use mathlib.Core.Bool.{Bool, false, not, ◌&&◌, ◌||◌, and-false, and-true, or-false}
@@ -18,7 +18,7 @@ use Rattle.label.specs.Label.{label}
 use Rattle.model.specs.Memory as model
 use Rattle.model.specs.Memory.{Network, error, pair_place, serial_at, names, set_rows, set_links, set_air, set_serials, air_limit}
 use Rattle.model.specs.Calls.{Down, Effect, effect, append, next_serial, count_on, send, sending, errors, withdrawn, error_outcome}
-use Rattle.model.specs.Calls.{take_out, emptied, every_destination, drop_between, lost, parted, down, bit}
+use Rattle.model.specs.Calls.{take_out, every_destination, drop_between, lost, parted, down, bit}
 use Rattle.model.specs.Events.{calls, event_of}
 use Rattle.model.proofs.Refusals.{pair-tells, down-limited}
 use Rattle.model.proofs.Serials.{used-two}

@@ -1,13 +1,12 @@
 -- What is known at the places of a turn of a run (`running::run`), of plain values.
-use Prim.Native.Nat.{ℕ, suc, ◌+◌, ◌-◌, ◌*◌, ◌%◌, ◌≤◌, ◌<◌}
-use mathlib.Core.Path.{◌≡◌, refl, sym, ap, subst, ◌∙◌}
+use Prim.Native.Nat.{ℕ, ◌-◌, ◌*◌, ◌%◌, ◌≤◌, ◌<◌}
+use mathlib.Core.Path.{◌≡◌, sym, ap, subst, ◌∙◌}
 use mathlib.Core.Logic.{◌≢◌, ◌⊎◌}
 use mathlib.Core.Bool.{Bool, true, false, not, ◌&&◌}
 use mathlib.Core.List.{List, [], ◌∷◌, map}
 use lib.Dec.{eqb}
 use lib.ListN.{length, get_or, set}
 use native.Mathlib.Omega.{arith}
-use borrow.Author.Tests.{eqb-true}
 use Rattle.std.specs.Prelude.{if◌then◌else◌}
 use Rattle.label.specs.declared.Label.{Label}
 use Rattle.label.specs.Label.{label}
@@ -64,18 +63,12 @@ pub event-counted : (drains : Bool) {memory : Memory} {kinds operands lines line
     → at ≡ line_place drains i → (i < most_events drains memory kinds) × (most_events drains memory kinds ≤ 138_272) × (at ≤ i)
 event-counted drains turn begun goes place = let n = event-among drains turn begun goes in (n.0, n.1, place-most drains place)
 
--- Places of pairs and of tables, of stations below 16.
+-- Places of pairs and of tables, of stations below n.
 pub pair-below : {a b pair : ℕ} → pair ≡ pair_place a b → (a < 16) × (b < 16) → pair < 256
 pair-below e h = omega arith
 
-pub place-below : {i t at : ℕ} → at ≡ place i t → (i < 16) × (t < 16) → at < 256
-place-below e h = omega arith
-
 pub stations-below : {a b n : ℕ} → (a < n) × (b < n) × (a ≢ b) → n ≤ 16 → (a < 16) × (b < 16)
 stations-below two high = (omega arith, omega arith)
-
-pub ends-below : {a b n : ℕ} → (a < n) × (b < n) → n ≤ 16 → (a < 16) × (b < 16)
-ends-below two high = (omega arith, omega arith)
 
 pub places-below : {a b t n mine theirs : ℕ} → mine ≡ place a t → theirs ≡ place b t → t < n → (a < n) × (b < n) × (a ≢ b) → n ≤ 16 → (mine < 256) × (theirs < 256)
 places-below e f h two high = (omega arith, omega arith)
@@ -84,14 +77,6 @@ places-below e f h two high = (omega arith, omega arith)
 pub walk-at : {n most t at : ℕ} (walk : Walk) → (walk.answer ≡ 0 → (walk.at < n) × (walk.hops ≤ most)) → walk.answer ≡ 0 → at ≡ place walk.at t → t < n → n ≤ 16
     → (walk.at < n) × (at < 256)
 walk-at walk h zero e below high = let at = h zero in (at.0, omega (arith, at.0))
-
--- The turns of the walk that are left.
-pub walk-less : (answer hops hops' limit : ℕ) → (answer ≡ 0 → (hops < limit) × (hops' ≡ hops + 1)) → (if eqb answer 0 then suc (limit - hops') else 0) < suc (limit - hops)
-walk-less answer hops hops' limit h = go (eqb answer 0) refl
-  where
-    go : (x : Bool) → eqb answer 0 ≡ x → (if x then suc (limit - hops') else 0) < suc (limit - hops)
-    go true e = let w = h (eqb-true answer 0 e) in omega (arith, w)
-    go false e = omega arith
 
 -- The rows of two stations at a place of the turn.
 pub rows-once : {memory : Memory} {a b t mine theirs : ℕ} → Ranged memory → (a < memory.n) × (b < memory.n) × (a ≢ b) → t < memory.n → mine ≡ place a t → theirs ≡ place b t
@@ -143,10 +128,6 @@ turn-places removed h e two high p q =
 
 pub all-turns : {v turns : ℕ} → v ≤ turns → turns ≤ v → v ≡ turns
 all-turns h k = omega arith
-
-pub spot-places : {station destination source cell slot : ℕ} → (station < 16) × (destination < 16) × (source < 16) → cell ≡ place station destination → slot ≡ place station source
-    → (cell < 256) × (slot < 256)
-spot-places k e f = (omega arith, omega arith)
 
 pub air-fits : {total limit : ℕ} → total ≤ limit → limit ≤ air_limit → total ≤ air_limit
 air-fits h k = omega arith

@@ -97,7 +97,8 @@ fn is_listed(i: u8, t: u8, label: Label) -> bool
     !is_unassigned(label)
 }
 
-// The lines of station i.
+// The lines of station i. Not inlined, so that its copy of the memory takes no stack while a run goes on.
+#[inline(never)]
 fn put_station_lines(out: &mut [u8], at: usize, memory: Memory, i: u8) -> usize
     requires memory_value { (memory_in_range (view memory) ≡ true) × (i < memory.n) }
     requires n_in_bounds { at + 69 * memory.n + 200 ≤ length out.old }

@@ -1,6 +1,5 @@
 -- `finish` meets its contract: by the answer, nothing or the whole memory is written.
 use mathlib.Core.Path.{refl}
-use borrow.Author.Rules.{rules}
 use Rattle.base.proofs.Booleans.{clash, was-true, was-false}
 use Rattle.console.proofs.finish.Goals as goal
 

@@ -1,7 +1,6 @@
 -- `out_of_range` meets its contract: the range test of what stands in the bytes.
 use mathlib.Core.Path.{ap, ◌∙◌}
 use mathlib.Core.Bool.{not}
-use borrow.Author.Rules.{rules}
 use Rattle.model.specs.Memory.{memory_in_range}
 use Rattle.console.specs.Showing.{out_of_range}
 use Rattle.console.proofs.out_of_range.Goals as goal

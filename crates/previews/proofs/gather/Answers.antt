@@ -1,10 +1,9 @@
 -- `gather` meets its contract: each part read at its place.
-use Prim.Native.Nat.{ℕ, ◌-◌, ◌≤◌, ◌<◌}
+use Prim.Native.Nat.{ℕ}
 use mathlib.Core.Path.{◌≡◌, refl, ap, ◌∙◌}
 use lib.ListN.{get_or}
 use native.Mathlib.Omega.{arith}
-use borrow.Author.Rules.{rules}
-use Rattle.base.proofs.Loops.{Filled, filled_none, filled_more, filled-all}
+use Rattle.base.proofs.Loops.{filled_none, filled_more, filled-all}
 use Rattle.model.specs.Memory.{place}
 use Rattle.rows.specs.View.{zero_row}
 use Rattle.network.specs.View.{label_of}

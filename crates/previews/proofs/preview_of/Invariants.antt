@@ -1,18 +1,11 @@
 -- `preview_of` meets its contract: turned down, an error, or a request or a reply.
-use Prim.Native.Nat.{ℕ, ◌-◌, ◌≤◌, ◌<◌}
-use mathlib.Core.Path.{◌≡◌, refl, sym, ap, subst, ◌∙◌}
+use Prim.Native.Nat.{◌-◌, ◌≤◌}
+use mathlib.Core.Path.{◌≡◌}
 use mathlib.Core.List.{map}
-use lib.ListN.{get_or}
-use native.Mathlib.Omega.{arith}
-use borrow.Author.Rules.{rules}
-use Rattle.model.specs.Memory.{zero_label, row_in}
-use Rattle.rows.specs.View.{zero_row, row_of, NamesOnce}
+use Rattle.rows.specs.View.{row_of}
 use Rattle.network.specs.declared.Memory.{Memory}
-use Rattle.network.specs.View.{zero_packet}
-use Rattle.station.proofs.Laws.{sent-few}
-use Rattle.steps.proofs.CutLaws.{Lost, lost-none, lost-below, lost-alone}
+use Rattle.steps.proofs.CutLaws.{Lost}
 use Rattle.previews.specs.Gathered.{gathered_of, InRange}
-use Rattle.previews.proofs.GatherLaws.{Lands, gathered-refused, lands, rows-known, gathered-error, gathered-ready, gathered-reaction}
 use Rattle.previews.proofs.preview_of.Given as goal
 
 -- The rows looked at so far.

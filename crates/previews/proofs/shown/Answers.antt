@@ -1,6 +1,5 @@
 -- `shown` meets its contract: 13 or 7, or what it was given.
 use Prim.Native.Nat.{◌+◌}
-use borrow.Author.Rules.{rules}
 use Rattle.previews.proofs.ShownLaws.{shown-stopped, shown-whole}
 use Rattle.previews.proofs.shown.Goals as goal
 

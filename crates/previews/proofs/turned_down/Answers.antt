@@ -1,5 +1,4 @@
 -- `turned_down` meets its contract.
-use borrow.Author.Rules.{rules}
 use Rattle.model.specs.Memory.{zero_label}
 use Rattle.previews.proofs.turned_down.Goals as goal
 

@@ -1,6 +1,5 @@
 -- `refusing::link_refusal` meets its contract: each number by its test.
 use mathlib.Core.Path.{sym, ◌∙◌}
-use borrow.Author.Rules.{rules}
 use Rattle.refusing.proofs.link_refusal.Goals as goal
 
 pub returns-then-not_pair : goal.returns-then-not_pair

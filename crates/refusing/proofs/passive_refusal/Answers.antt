@@ -1,6 +1,5 @@
 -- `refusing::passive_refusal` meets its contract: each number by its test.
 use mathlib.Core.Path.{sym, ◌∙◌}
-use borrow.Author.Rules.{rules}
 use Rattle.refusing.proofs.passive_refusal.Goals as goal
 
 pub returns-then-not_station : goal.returns-then-not_station

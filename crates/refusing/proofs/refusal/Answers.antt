@@ -2,7 +2,6 @@
 use mathlib.Core.Path.{◌≡◌, sym, ◌∙◌}
 use mathlib.Core.Bool.{false}
 use native.Mathlib.Omega.{arith}
-use borrow.Author.Rules.{rules}
 use Rattle.model.specs.Events.{not_event}
 use Rattle.model.proofs.EventLaws.{event-kinds, event-none, call-1, call-2, call-3, call-4}
 use Rattle.refusing.specs.Refusing.{Tests}

@@ -1,6 +1,5 @@
 -- `refusing::search_refusal` meets its contract: each number by its test.
 use mathlib.Core.Path.{sym, ◌∙◌}
-use borrow.Author.Rules.{rules}
 use borrow.Author.Tests.{le-leb, lt-leb}
 use Rattle.refusing.proofs.search_refusal.Goals as goal
 

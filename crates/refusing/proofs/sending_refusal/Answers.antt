@@ -1,10 +1,9 @@
 -- `refusing::sending_refusal` meets its contract: each number by its test.
-use mathlib.Core.Path.{◌≡◌, ap₂}
+use mathlib.Core.Path.{ap₂}
 use mathlib.Core.Bool.{Bool, ◌||◌}
 use native.Mathlib.Omega.{arith}
-use borrow.Author.Rules.{rules}
 use Rattle.base.proofs.Booleans.{was-true, was-false}
-use Rattle.refusing.proofs.RefusalLaws.{used, refused-13, refused-7, refused-not}
+use Rattle.refusing.proofs.RefusalLaws.{refused-13, refused-7, refused-not}
 use Rattle.refusing.proofs.sending_refusal.Goals as goal
 
 pub returns-then-used_up : goal.returns-then-used_up

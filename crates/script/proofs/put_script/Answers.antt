@@ -1,6 +1,5 @@
 -- `put_script` meets its contract: the five parts put one after the other.
 use mathlib.Core.Path.{◌∙◌}
-use borrow.Author.Rules.{rules}
 use Rattle.script.specs.Script.{script}
 use Rattle.script.proofs.ScriptLaws.{encoded-put}
 use Rattle.script.proofs.put_script.Goals as goal

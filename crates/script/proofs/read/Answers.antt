@@ -5,7 +5,6 @@ use mathlib.Core.Bool.{false}
 use mathlib.Core.List.{List}
 use lib.ListN.{length}
 use native.Mathlib.Omega.{arith}
-use borrow.Author.Rules.{rules}
 use Rattle.base.proofs.Booleans.{was-true, was-false}
 use Rattle.script.specs.declared.Found.{Found}
 use Rattle.script.specs.Script.{decoded, no_room}

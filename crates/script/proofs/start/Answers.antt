@@ -1,6 +1,5 @@
 -- `start` meets its contract: what parsing found.
 use mathlib.Core.Path.{sym, ap, ◌∙◌}
-use borrow.Author.Rules.{rules}
 use Rattle.script.specs.ScriptContracts.{start_of}
 use Rattle.script.proofs.ScriptLaws.{found-start, reading-whole}
 use Rattle.script.proofs.start.Goals as goal

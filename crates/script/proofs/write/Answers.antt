@@ -7,7 +7,7 @@ use lib.ListN.{length}
 use native.Mathlib.Omega.{arith}
 use borrow.Author.Rules.{rules}
 use borrow.Author.Tests.{lt-ltb, le-ltb}
-use Rattle.base.proofs.Booleans.{was-true, was-false, not-was-true, was-true, not-was-false, was-false}
+use Rattle.base.proofs.Booleans.{was-true, was-false, was-true, was-false}
 use Rattle.base.proofs.Results.{refuse-holds, refuse-passes}
 use Rattle.codec.proofs.ByteLaws.{puts-refused, puts-accepted}
 use Rattle.model.specs.Calls.{not_opening}

@@ -1,7 +1,6 @@
 -- `tracing::advance` meets its contract, case by case.
 use mathlib.Core.Path.{refl}
 use native.Mathlib.Omega.{arith}
-use borrow.Author.Rules.{rules}
 use Rattle.tracing.proofs.WalkLaws.{arrives, stops, ends, hops}
 use Rattle.tracing.proofs.advance.Goals as goal
 

@@ -1,6 +1,5 @@
 -- `tracing::next_hop` meets its contract: the row's first entry.
 use mathlib.Core.Path.{refl}
-use borrow.Author.Rules.{rules}
 use Rattle.tracing.proofs.WalkLaws.{next-is}
 use Rattle.tracing.proofs.next_hop.Goals as goal
 

@@ -1,6 +1,5 @@
 -- `calls::call` meets its contract: the call on what stands in the bytes, told and written.
 use mathlib.Core.Path.{sym, ap, ◌∙◌}
-use borrow.Author.Rules.{rules}
 use Rattle.model.specs.Calls.{step}
 use Rattle.model.specs.Events.{call_of}
 use Rattle.model.proofs.EventLaws.{call-on-memory}

@@ -1,6 +1,5 @@
 -- `calls::srp_open` meets its contract: refused with 1 for the length, or the call.
 use mathlib.Core.Path.{refl}
-use borrow.Author.Rules.{rules}
 use borrow.Author.Tests.{lt-ltb, le-ltb}
 use Rattle.label.specs.Label.{split}
 use Rattle.model.specs.Calls.{Open, step_by}

@@ -2,7 +2,6 @@
 use Prim.Native.Nat.{◌<◌}
 use mathlib.Core.Path.{◌≡◌, sym, ap, ◌∙◌}
 use native.Mathlib.Omega.{arith}
-use Rattle.label.specs.declared.Label.{Label}
 use Rattle.label.specs.Label.{label, took, outcome, new_label_call}
 use Rattle.console.specs.Packed.{outcome_in}
 use Rattle.console.proofs.LabelResults.{took-told}

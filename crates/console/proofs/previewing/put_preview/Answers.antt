@@ -4,7 +4,6 @@ use mathlib.Core.Path.{◌∙◌}
 use mathlib.Core.List.{◌++◌}
 use lib.Seq.{sets}
 use native.Mathlib.Omega.{arith}
-use borrow.Author.Rules.{rules}
 use Rattle.codec.specs.Bytes.{little_endian}
 use Rattle.codec.proofs.ByteLaws.{sets-next}
 use Rattle.codec.proofs.FieldLaws.{written-wide}

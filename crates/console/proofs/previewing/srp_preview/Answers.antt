@@ -1,12 +1,7 @@
 -- `previewing::srp_preview` meets its contract: refused with the preview's number, then with 12, or what the preview shows.
-use mathlib.Core.Path.{◌≡◌, ap, ◌∙◌}
-use mathlib.Core.Bool.{false}
-use borrow.Author.Rules.{rules}
+use mathlib.Core.Path.{ap, ◌∙◌}
 use Rattle.base.proofs.Booleans.{was-true, was-false}
-use Rattle.base.specs.Results.{is_refusal}
 use Rattle.model.specs.Preview.{preview}
-use Rattle.layout.specs.Meaning.{stored_network}
-use Rattle.previews.specs.Shown.{preview_of}
 use Rattle.console.proofs.PreviewLaws.{preview-refused, preview-12, preview-shown}
 use Rattle.console.proofs.previewing.srp_preview.Goals as goal
 

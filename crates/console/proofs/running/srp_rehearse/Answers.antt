@@ -1,6 +1,5 @@
 -- `running::srp_rehearse` meets its contract: a rehearsal, told in one number.
 use native.Mathlib.Omega.{arith}
-use borrow.Author.Rules.{rules}
 use Rattle.console.proofs.RehearseLaws.{rehearsed-few, rehearsal-told}
 use Rattle.console.proofs.running.srp_rehearse.Goals as goal
 

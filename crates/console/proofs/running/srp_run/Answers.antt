@@ -1,8 +1,6 @@
 -- `running::srp_run` meets its contract: a run on what stands in the bytes, told and written; and demand 3.
 use mathlib.Core.Path.{subst}
 use native.Mathlib.Omega.{arith}
-use borrow.Author.Rules.{rules}
-use Rattle.layout.specs.Meaning.{stored_network}
 use Rattle.console.proofs.RunLaws.{Ran, run_long, run-few, run-claims}
 use Rattle.console.proofs.running.srp_run.Goals as goal
 

@@ -1,8 +1,5 @@
 -- `scripts::srp_read_script` meets its contract: what reading gave, in one number.
-use Prim.Native.Nat.{◌≤◌}
 use native.Mathlib.Omega.{arith}
-use borrow.Author.Rules.{rules}
-use Rattle.model.specs.Events.{event_limit}
 use Rattle.console.proofs.ScriptResults.{read_small, read_told}
 use Rattle.console.proofs.scripts.srp_read_script.Goals as goal
 

@@ -1,5 +1,4 @@
 -- `scripts::srp_script_start` meets its contract: the start that the script crate tells.
-use borrow.Author.Rules.{rules}
 use Rattle.console.proofs.scripts.srp_script_start.Goals as goal
 
 pub returns : goal.returns

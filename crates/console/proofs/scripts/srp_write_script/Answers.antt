@@ -1,6 +1,5 @@
 -- `scripts::srp_write_script` meets its contract: what writing gave, in one number.
 use native.Mathlib.Omega.{arith}
-use borrow.Author.Rules.{rules}
 use Rattle.script.specs.Script.{script}
 use Rattle.console.proofs.ScriptResults.{written_small, written-told}
 use Rattle.console.proofs.scripts.srp_write_script.Goals as goal

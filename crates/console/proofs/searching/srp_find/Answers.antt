@@ -1,7 +1,6 @@
 -- `searching::srp_find` meets its contract: no row, no station, or what the search told.
 use mathlib.Core.Path.{◌∙◌}
 use native.Mathlib.Omega.{arith}
-use borrow.Author.Rules.{rules}
 use Rattle.rows.specs.View.{row_of}
 use Rattle.console.proofs.SearchLaws.{search-short, search-over, search-no-station, search-told}
 use Rattle.console.proofs.searching.srp_find.Goals as goal

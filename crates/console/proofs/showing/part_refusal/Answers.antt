@@ -1,6 +1,5 @@
 -- `showing::part_refusal` meets its contract, by the part.
 use mathlib.Core.Path.{◌∙◌}
-use borrow.Author.Rules.{rules}
 use borrow.Author.Tests.{ne_eqb}
 use Rattle.console.specs.Parts.{part_refusal}
 use Rattle.console.proofs.showing.part_refusal.Goals as goal

@@ -1,11 +1,10 @@
 -- `showing::put_part` meets its contract, by the part: what is read where it stands is put.
 use Prim.Native.Nat.{◌<◌}
-use mathlib.Core.Path.{◌≡◌, sym, ap, ◌∙◌}
-use mathlib.Core.Logic.{◌⊎◌, inl, inr}
+use mathlib.Core.Path.{sym, ap, ◌∙◌}
+use mathlib.Core.Logic.{inl, inr}
 use lib.Seq.{sets}
 use native.Mathlib.Omega.{arith}
-use borrow.Author.Rules.{rules}
-use Rattle.model.specs.Memory.{Row, Record, air_limit}
+use Rattle.model.specs.Memory.{Row, Record}
 use Rattle.label.specs.declared.Label.{Label}
 use Rattle.network.specs.View.{packet_of}
 use Rattle.formats.specs.Formats.{Station}

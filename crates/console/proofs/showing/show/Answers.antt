@@ -1,15 +1,9 @@
 -- `showing::show` meets its contract: refused with 1, with the number of the part's test or with 12, or the part's bytes.
 use mathlib.Core.Path.{◌≡◌, sym, ◌∙◌}
-use mathlib.Core.Bool.{false}
 use native.Mathlib.Omega.{arith}
-use borrow.Author.Rules.{rules}
 use Rattle.base.proofs.Booleans.{was-true, was-false}
-use Rattle.base.specs.Results.{accepted}
-use Rattle.layout.specs.Meaning.{stored_network}
-use Rattle.layout.proofs.MeaningLaws.{Readable}
 use Rattle.console.specs.Packed.{packed}
-use Rattle.console.specs.Showing.{out_of_range, show_part}
-use Rattle.console.specs.Parts.{part_in}
+use Rattle.console.specs.Showing.{show_part}
 use Rattle.console.proofs.ShowLaws.{range-readable, puts-1, puts-other, puts-12, puts-shown}
 use Rattle.console.proofs.ShownLaws.{part-refused, part-shown, part-wide}
 use Rattle.console.proofs.showing.show.Goals as goal

@@ -1,9 +1,7 @@
 -- `showing::show_byte` meets its contract: refused with 1, or the byte.
 use mathlib.Core.Path.{refl}
 use native.Mathlib.Omega.{arith}
-use borrow.Author.Rules.{rules}
 use Rattle.base.proofs.Booleans.{was-true, was-false}
-use Rattle.layout.proofs.MeaningLaws.{Readable}
 use Rattle.console.proofs.ShowLaws.{range-readable, tells-1, tells-value}
 use Rattle.console.proofs.showing.show_byte.Goals as goal
 

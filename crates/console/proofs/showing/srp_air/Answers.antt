@@ -1,6 +1,5 @@
 -- `showing::srp_air` meets its contract: the byte that it shows is the number of packets.
 use mathlib.Core.Path.{sym, ◌∙◌}
-use borrow.Author.Rules.{rules}
 use Rattle.console.specs.Showing.{show_air}
 use Rattle.console.proofs.ShowLaws.{tells-same}
 use Rattle.console.proofs.ShownLaws.{show-air}

@@ -1,6 +1,5 @@
 -- `showing::srp_limit` meets its contract: the byte that it shows is the air limit.
 use mathlib.Core.Path.{sym, ◌∙◌}
-use borrow.Author.Rules.{rules}
 use Rattle.console.specs.Showing.{show_limit}
 use Rattle.console.proofs.ShowLaws.{tells-same}
 use Rattle.console.proofs.ShownLaws.{show-limit}

@@ -1,14 +1,9 @@
 -- `showing::srp_link` meets its contract: refused with 1 or 2, or the link's flag.
-use Prim.Native.Nat.{◌<◌}
-use mathlib.Core.Path.{◌≡◌, ◌∙◌}
-use mathlib.Core.Bool.{false}
+use mathlib.Core.Path.{◌∙◌}
 use native.Mathlib.Omega.{arith}
-use borrow.Author.Rules.{rules}
 use Rattle.base.proofs.Booleans.{was-true, was-false}
-use Rattle.layout.proofs.MeaningLaws.{Readable}
-use Rattle.console.specs.Showing.{out_of_range}
 use Rattle.console.proofs.ShowLaws.{range-readable, tells-1, tells-refused, tells-value}
-use Rattle.console.proofs.ShownLaws.{no_pair, pair-below, show-link-2, show-link}
+use Rattle.console.proofs.ShownLaws.{pair-below, show-link-2, show-link}
 use Rattle.console.proofs.showing.srp_link.Goals as goal
 
 pub returns-then-out_of_range : goal.returns-then-out_of_range

@@ -1,6 +1,5 @@
 -- `showing::srp_size` meets its contract: the byte that it shows is the number of stations.
 use mathlib.Core.Path.{sym, ◌∙◌}
-use borrow.Author.Rules.{rules}
 use Rattle.console.specs.Showing.{show_size}
 use Rattle.console.proofs.ShowLaws.{tells-same}
 use Rattle.console.proofs.ShownLaws.{show-size}

@@ -1,6 +1,5 @@
 -- `changing::change_of` meets its contract: each kind by its callee's.
 use native.Mathlib.Omega.{arith}
-use borrow.Author.Rules.{rules}
 use Rattle.decisions.proofs.changing.change_of.Goals as goal
 
 pub soliciting-requires : goal.soliciting-requires

@@ -1,6 +1,5 @@
 -- `changing::outgoing` meets its contract, by the kind.
 use mathlib.Core.Path.{refl}
-use borrow.Author.Rules.{rules}
 use Rattle.decisions.proofs.changing.outgoing.Goals as goal
 
 pub returns-then-kind-ne8 : goal.returns-then-kind-ne8

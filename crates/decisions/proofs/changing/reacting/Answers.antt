@@ -1,6 +1,5 @@
 -- `changing::reacting` meets its contract: all that the reaction says.
 use mathlib.Core.Path.{refl}
-use borrow.Author.Rules.{rules}
 use Rattle.decisions.proofs.changing.reacting.Goals as goal
 
 pub returns : goal.returns

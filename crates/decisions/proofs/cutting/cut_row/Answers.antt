@@ -1,6 +1,5 @@
 -- `cutting::cut_row` meets its contract: a row that is masked, and one that is not.
 use mathlib.Core.Path.{sym, ◌∙◌}
-use borrow.Author.Rules.{rules}
 use Rattle.decisions.proofs.cutting.cut_row.Goals as goal
 
 pub returns-then-bit : goal.returns-then-bit

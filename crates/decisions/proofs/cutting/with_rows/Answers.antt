@@ -1,5 +1,4 @@
 -- `cutting::with_rows` meets its contract: what each row adds.
-use borrow.Author.Rules.{rules}
 use Rattle.decisions.proofs.cutting.with_rows.Goals as goal
 
 pub returns : goal.returns

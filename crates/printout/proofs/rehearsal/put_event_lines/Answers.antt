@@ -1,15 +1,11 @@
 -- `rehearsal::put_event_lines` meets its contract: the lines of the first i events are put.
-use Prim.Native.Nat.{◌-◌, ◌*◌, ◌≤◌}
 use mathlib.Core.Path.{◌≡◌, refl, ◌∙◌}
 use mathlib.Core.List.{flat_map}
 use lib.ListN.{length}
 use native.Mathlib.Omega.{arith}
-use borrow.Author.Rules.{rules}
 use Rattle.base.specs.Lists.{tabulate}
-use Rattle.model.specs.Memory.{Network}
-use Rattle.model.specs.Printout.{line_at, event_lines}
+use Rattle.model.specs.Printout.{event_lines}
 use Rattle.telling.specs.Tallies.{Told}
-use Rattle.text.specs.TextContracts.{PutsAt}
 use Rattle.text.proofs.TextLaws.{puts_none, puts-append}
 use Rattle.printout.proofs.RehearsalLaws.{text_first, text-more}
 use Rattle.printout.proofs.rehearsal.put_event_lines.Goals as goal

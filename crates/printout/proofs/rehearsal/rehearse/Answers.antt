@@ -1,8 +1,6 @@
 -- `rehearsal::rehearse` meets its contracts: the text of the rehearsal under the limit 128, or the line of the refusal; demand 3, and F-5.
-use native.Mathlib.Omega.{arith}
 use borrow.Author.Rules.{rules}
-use Rattle.text.proofs.TextLaws.{puts-counted}
-use Rattle.printout.proofs.RehearsalLaws.{prints-accepted, prints-refused, counted, routes-loop-free, tally-fits}
+use Rattle.printout.proofs.RehearsalLaws.{prints-accepted, prints-refused}
 use Rattle.printout.proofs.rehearsal.rehearse.Goals as goal
 
 pub returns-then-answer-eq0-clause-text : goal.returns-then-answer-eq0-clause-text

@@ -1,11 +1,9 @@
 -- `rehearsal::rehearse_input` meets its contracts: the bytes that stand in the array print what the whole input prints.
-use mathlib.Core.Path.{◌≡◌, sym, subst}
+use mathlib.Core.Path.{◌≡◌, subst}
 use Prim.Native.Nat.{ℕ}
 use lib.ListN.{length, take}
-use lib.Seq.{length-take-le}
 use mathlib.Core.List.{List}
 use native.Mathlib.Omega.{arith}
-use borrow.Author.Rules.{rules}
 use Rattle.printout.specs.Printed.{Prints}
 use Rattle.printout.proofs.RehearsalLaws.{routes-loop-free, tally-fits, take_min, prints-whole}
 use Rattle.printout.proofs.rehearsal.rehearse_input.Goals as goal

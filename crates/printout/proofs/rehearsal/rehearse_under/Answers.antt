@@ -2,20 +2,17 @@
 -- and F-5.
 use Prim.Native.Nat.{ℕ, ◌*◌, ◌≤◌}
 use mathlib.Core.Path.{◌≡◌, sym, ap, ◌∙◌}
-use mathlib.Core.Bool.{false}
 use mathlib.Core.List.{List, []}
 use lib.ListN.{length}
 use native.Mathlib.Omega.{arith}
-use borrow.Author.Rules.{rules}
 use Rattle.base.specs.Results.{refused}
-use Rattle.model.specs.Calls.{not_limit}
 use Rattle.model.specs.Events.{event_limit}
 use Rattle.model.specs.Tally.{tally_of}
 use Rattle.model.proofs.Refusals.{limit-tells}
 use Rattle.script.specs.ScriptContracts.{in_arrays}
 use Rattle.printout.specs.declared.rehearsal.Rehearsed.{Rehearsed}
 use Rattle.printout.specs.Printed.{rehearsal_of, printout_room, rehearsing, rehearsed, Rehearses, RoutesLoopFree, TallyFits}
-use Rattle.printout.proofs.RehearsalLaws.{Scripted, not-read, scripted, rehearsing-unread, rehearsing-14, rehearsing-12, rehearsing-accepted}
+use Rattle.printout.proofs.RehearsalLaws.{not-read, scripted, rehearsing-unread, rehearsing-14, rehearsing-12, rehearsing-accepted}
 use Rattle.printout.proofs.RehearsalLaws.{routes-loop-free, tally-fits, rehearses-refused, rehearses-accepted}
 use Rattle.printout.proofs.rehearsal.rehearse_under.Goals as goal
 

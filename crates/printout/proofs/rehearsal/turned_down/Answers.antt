@@ -1,6 +1,5 @@
 -- `rehearsal::turned_down` meets its contract: no text, and the tally of no events.
 use mathlib.Core.Path.{ap}
-use borrow.Author.Rules.{rules}
 use Rattle.model.specs.Tally.{Tally}
 use Rattle.printout.specs.Printed.{rehearsed}
 use Rattle.printout.proofs.rehearsal.turned_down.Goals as goal

@@ -1,6 +1,5 @@
 -- `calls::call` meets its contract: refused with 1, or the event of narrowed numbers.
-use borrow.Author.Rules.{rules}
-use Rattle.base.proofs.Booleans.{not-was-true, was-true, not-was-false, was-false}
+use Rattle.base.proofs.Booleans.{was-false}
 use Rattle.model.proofs.EventLaws.{call-on-memory}
 use Rattle.network.proofs.Bounds.{sized}
 use Rattle.steps.proofs.CallLaws.{called-out-of-range}

@@ -1,8 +1,7 @@
 -- `calls::drain` meets its contract: refused with 1, or drained; and the claim of demand 3.
 use mathlib.Core.Path.{refl}
 use mathlib.Core.Bool.{true, false}
-use borrow.Author.Rules.{rules}
-use Rattle.base.proofs.Booleans.{not-was-true, was-true, not-was-false, was-false}
+use Rattle.base.proofs.Booleans.{was-true, was-false}
 use Rattle.sandbox.proofs.MadeLaws.{drain-claims}
 use Rattle.sandbox.proofs.calls.drain.Goals as goal
 

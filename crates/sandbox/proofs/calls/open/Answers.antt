@@ -2,13 +2,12 @@
 use Prim.Native.Nat.{◌≤◌}
 use mathlib.Core.Path.{sym, ap, ◌∙◌}
 use native.Mathlib.Omega.{arith}
-use borrow.Author.Rules.{rules}
 use Rattle.base.proofs.Booleans.{cases}
 use Rattle.model.specs.Memory as model
 use Rattle.model.specs.Memory.{Sized, air_limit}
 use Rattle.model.specs.Calls.{effect}
 use Rattle.base.specs.Results.{refused}
-use Rattle.model.proofs.Refusals.{Opens, open-either, opening-tells, limit-tells}
+use Rattle.model.proofs.Refusals.{open-either, opening-tells, limit-tells}
 use Rattle.network.specs.View.{view}
 use Rattle.network.proofs.Bounds.{sized}
 use Rattle.steps.proofs.CallLaws.{called-refused, called-accepted}

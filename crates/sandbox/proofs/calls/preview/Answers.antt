@@ -1,7 +1,6 @@
 -- `calls::preview` meets its contract: refused with 1, or the preview of a narrowed number.
 use mathlib.Core.Path.{sym, ◌∙◌}
-use borrow.Author.Rules.{rules}
-use Rattle.base.proofs.Booleans.{not-was-true, was-true, not-was-false, was-false}
+use Rattle.base.proofs.Booleans.{was-true, was-false}
 use Rattle.model.proofs.PreviewLaws.{preview-out-of-range}
 use Rattle.network.proofs.Bounds.{memory-lengths}
 use Rattle.previews.specs.Gathered.{InRange}

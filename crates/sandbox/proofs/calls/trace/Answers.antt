@@ -1,7 +1,6 @@
 -- `calls::trace` meets its contract: refused with 1, or the Trace of narrowed numbers; and the claim of demand 3.
 use mathlib.Core.Path.{refl, sym}
-use borrow.Author.Rules.{rules}
-use Rattle.base.proofs.Booleans.{not-was-true, was-true, not-was-false, was-false}
+use Rattle.base.proofs.Booleans.{was-false}
 use Rattle.model.proofs.Tracing.{trace-out-of-range}
 use Rattle.network.proofs.Bounds.{sized}
 use Rattle.sandbox.proofs.MadeLaws.{reached-ends, made_ends}

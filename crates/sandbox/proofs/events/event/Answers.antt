@@ -1,6 +1,5 @@
 -- `events::event` meets its contract: refused with 1, or the event on memory in range.
-use borrow.Author.Rules.{rules}
-use Rattle.base.proofs.Booleans.{not-was-true, was-true, not-was-false, was-false}
+use Rattle.base.proofs.Booleans.{was-false}
 use Rattle.steps.proofs.HappenLaws.{happens-out-of-range}
 use Rattle.sandbox.proofs.events.event.Goals as goal
 

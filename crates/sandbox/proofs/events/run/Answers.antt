@@ -1,19 +1,13 @@
 -- `events::run` meets its contract: refused with 10, 1, 11 or 12, or the events one after the other; and the claim of demand 3.
-use mathlib.Core.Path.{◌≡◌, refl, sym, ap, ◌∙◌}
-use mathlib.Core.Bool.{true, false, not}
-use mathlib.Core.List.{[]}
-use lib.ListN.{length}
+use mathlib.Core.Path.{refl, sym, ap, ◌∙◌}
+use mathlib.Core.Bool.{not}
 use native.Mathlib.Omega.{arith}
 use borrow.Author.Rules.{rules}
-use Rattle.base.proofs.Booleans.{clash, not-was-true, was-true, not-was-false, was-false}
+use Rattle.base.proofs.Booleans.{clash, was-true, was-false}
 use Rattle.base.proofs.Results.{refuse-holds, refuse-passes}
-use Rattle.model.specs.Memory.{memory_in_range}
-use Rattle.model.specs.Events.{not_events, all_events, running_by}
-use Rattle.model.specs.Tally.{tally_of}
+use Rattle.model.specs.Events.{running_by}
 use Rattle.model.proofs.EventLaws.{events-tell}
-use Rattle.network.specs.View.{view}
 use Rattle.network.proofs.Bounds.{sized}
-use Rattle.telling.specs.Tallies.{tally_in}
 use Rattle.steps.proofs.ToldLaws.{told-lines}
 use Rattle.sandbox.proofs.RunLaws.{run-refused, run-no-room, run-accepted}
 use Rattle.sandbox.proofs.events.run.Goals as goal

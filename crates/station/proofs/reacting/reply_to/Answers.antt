@@ -1,6 +1,5 @@
 -- `reacting::reply_to` meets its contract: a reply, and then its sender and receiver.
 use mathlib.Core.Path.{ap, ◌∙◌}
-use borrow.Author.Rules.{rules}
 use Rattle.model.specs.Memory as model
 use Rattle.network.specs.View.{packet_of}
 use Rattle.station.proofs.reacting.reply_to.Goals as goal

@@ -1,5 +1,4 @@
 -- `reacting::replying` meets its contract: a reply sent, and the record marked.
-use borrow.Author.Rules.{rules}
 use Rattle.station.proofs.Laws.{reacts-reply}
 use Rattle.station.proofs.reacting.replying.Goals as goal
 

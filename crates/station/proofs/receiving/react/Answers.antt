@@ -1,6 +1,5 @@
 -- `receiving::react` meets its contract, by the packet's kind.
 use native.Mathlib.Omega.{arith}
-use borrow.Author.Rules.{rules}
 use Rattle.model.specs.Calls.{receive_by}
 use Rattle.network.proofs.ViewLaws.{body-request, body-reply}
 use Rattle.station.proofs.receiving.react.Goals as goal

@@ -1,6 +1,5 @@
 -- `replies::adopts` meets its contract: the label, its row and who is active.
 use mathlib.Core.Path.{refl, ◌∙◌}
-use borrow.Author.Rules.{rules}
 use Rattle.station.proofs.ReplyLaws.{entry-with, holding-adopts}
 use Rattle.station.proofs.replies.adopts.Goals as goal
 

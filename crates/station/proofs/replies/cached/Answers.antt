@@ -1,5 +1,4 @@
 -- `replies::cached` meets its contract: at the source, and elsewhere.
-use borrow.Author.Rules.{rules}
 use borrow.Author.Tests.{eq-eqb, ne_eqb}
 use Rattle.label.specs.Label.{unassigned, is_unassigned, in_range}
 use Rattle.model.specs.Calls.{cached_at}

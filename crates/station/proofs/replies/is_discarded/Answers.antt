@@ -1,5 +1,4 @@
 -- `replies::is_discarded` meets its contract: the definition.
-use borrow.Author.Rules.{rules}
 use Rattle.station.proofs.replies.is_discarded.Goals as goal
 
 pub returns : goal.returns

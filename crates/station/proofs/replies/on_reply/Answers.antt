@@ -1,6 +1,5 @@
 -- `replies::on_reply` meets its contract: discarded, or New label's outcome settled and then passed on.
 use mathlib.Core.Path.{sym, ◌∙◌}
-use borrow.Author.Rules.{rules}
 use Rattle.model.specs.Memory.{set_labels, set_rows, set_records, set_actives}
 use Rattle.station.specs.Reacting.{holding}
 use Rattle.station.proofs.Laws.{holds-holding, reacts-twice}

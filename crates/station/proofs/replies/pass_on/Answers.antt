@@ -1,6 +1,5 @@
 -- `replies::pass_on` meets its contract: each answer by its case of the definition.
 use mathlib.Core.Path.{sym, ◌∙◌}
-use borrow.Author.Rules.{rules}
 use Rattle.station.proofs.ReplyLaws.{passed_on, not-passed-on}
 use Rattle.station.proofs.replies.pass_on.Goals as goal
 

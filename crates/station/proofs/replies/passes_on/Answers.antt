@@ -1,5 +1,4 @@
 -- `replies::passes_on` meets its contract: at the source, and elsewhere.
-use borrow.Author.Rules.{rules}
 use borrow.Author.Tests.{eq-eqb, ne_eqb}
 use Rattle.base.proofs.Loops.{tabulate-empty}
 use Rattle.model.specs.Calls.{passes_on}

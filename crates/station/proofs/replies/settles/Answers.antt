@@ -1,6 +1,5 @@
 -- `replies::settles` meets its contract, outcome by outcome.
 use mathlib.Core.Path.{refl}
-use borrow.Author.Rules.{rules}
 use Rattle.model.specs.Calls.{on_outcome}
 use Rattle.station.proofs.Laws.{holding-same}
 use Rattle.station.proofs.replies.settles.Goals as goal

@@ -1,7 +1,6 @@
 -- `requests::at_destination` meets its contract: each answer by its case of the definition.
 use mathlib.Core.Path.{◌∙◌}
-use borrow.Author.Rules.{rules}
-use Rattle.base.proofs.Booleans.{not-was-true, was-true, not-was-false, was-false}
+use Rattle.base.proofs.Booleans.{was-true, was-false}
 use Rattle.model.specs.Calls.{with_number}
 use Rattle.station.proofs.Laws.{holds-holding, reacts-twice}
 use Rattle.station.proofs.RequestLaws.{destination-stays, destination-overflows, destination-rises}

@@ -1,5 +1,4 @@
 -- `requests::can_reply` meets its contract: no reply with an empty row, and the definition's other part else.
-use borrow.Author.Rules.{rules}
 use borrow.Author.Tests.{eq-eqb, ne_eqb}
 use Rattle.base.proofs.Loops.{tabulate-empty}
 use Rattle.model.specs.Calls.{can_reply}

@@ -1,5 +1,4 @@
 -- `requests::clears` meets its contract: the definition.
-use borrow.Author.Rules.{rules}
 use Rattle.station.proofs.requests.clears.Goals as goal
 
 pub returns : goal.returns

@@ -1,5 +1,4 @@
 -- `requests::denominators_overflow` meets its contract: the definition.
-use borrow.Author.Rules.{rules}
 use Rattle.station.proofs.requests.denominators_overflow.Goals as goal
 
 pub returns : goal.returns

@@ -1,6 +1,5 @@
 -- `requests::engage` meets its contract: each answer by its case of the definition.
 use mathlib.Core.Path.{sym, ◌∙◌}
-use borrow.Author.Rules.{rules}
 use Rattle.station.proofs.Laws.{reacts-copies}
 use Rattle.station.proofs.RequestLaws.{engage-destination, engage-replies, engage-broadcasts}
 use Rattle.station.proofs.requests.engage.Goals as goal

@@ -1,6 +1,5 @@
 -- `requests::on_request` meets its contract: known, or engaged with its record rewritten.
 use mathlib.Core.Path.{sym, ◌∙◌}
-use borrow.Author.Rules.{rules}
 use Rattle.station.proofs.Laws.{holds-holding, holding-kept, reacts-twice}
 use Rattle.station.proofs.RequestLaws.{request-known, request-new}
 use Rattle.station.proofs.requests.on_request.Goals as goal

@@ -1,5 +1,4 @@
 -- `requests::onward` meets its contract: the request with the new label and bit.
-use borrow.Author.Rules.{rules}
 use Rattle.model.specs.Calls.{onward}
 use Rattle.network.specs.View.{request_of}
 use Rattle.station.proofs.requests.onward.Goals as goal

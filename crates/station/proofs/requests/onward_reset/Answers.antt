@@ -1,6 +1,5 @@
 -- `requests::onward_reset` meets its contract: each answer by its case of the definition.
 use mathlib.Core.Path.{sym, ◌∙◌}
-use borrow.Author.Rules.{rules}
 use Rattle.model.specs.Calls.{onward_reset}
 use Rattle.network.specs.View.{request_of}
 use Rattle.station.proofs.requests.onward_reset.Goals as goal

@@ -1,6 +1,5 @@
 -- `sending::copies` meets its contract, by its scope.
 use mathlib.Core.Path.{sym, ◌∙◌}
-use borrow.Author.Rules.{rules}
 use Rattle.station.proofs.Laws.{sent-none, sent-one, sent-all-length}
 use Rattle.station.proofs.sending.copies.Goals as goal
 

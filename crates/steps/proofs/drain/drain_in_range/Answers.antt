@@ -1,7 +1,6 @@
 -- `drain::drain_in_range` meets its contract: the memory and the losses are the run's, and the events that no loss took are deliveries.
 use mathlib.Core.Path.{refl}
 use native.Mathlib.Omega.{arith}
-use borrow.Author.Rules.{rules}
 use Rattle.draining.proofs.Ending.{limit-largest}
 use Rattle.steps.proofs.drain.drain_in_range.Goals as goal
 

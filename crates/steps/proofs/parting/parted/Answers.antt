@@ -1,7 +1,6 @@
 -- `parting::parted` meets its contract.
 use mathlib.Core.Path.{◌∙◌}
 use native.Mathlib.Omega.{arith}
-use borrow.Author.Rules.{rules}
 use Rattle.steps.proofs.parting.parted.Goals as goal
 
 pub overflow_add-left : goal.overflow_add-left

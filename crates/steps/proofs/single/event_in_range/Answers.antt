@@ -1,5 +1,4 @@
 -- `single::event_in_range` meets its contract: what one event in a run left and told.
-use borrow.Author.Rules.{rules}
 use Rattle.base.specs.Lists.{tabulate}
 use Rattle.model.specs.Events.{event_at}
 use Rattle.steps.proofs.SingleLaws.{ran-one}

@@ -1,5 +1,4 @@
 -- `source::goes_on` meets its contract.
-use borrow.Author.Rules.{rules}
 use Rattle.steps.proofs.source.goes_on.Goals as goal
 
 pub returns-then-drains : goal.returns-then-drains

@@ -1,6 +1,5 @@
 -- `source::next_event` meets its contract: event i of the list, or what follows on the line told last.
 use mathlib.Core.Path.{subst}
-use borrow.Author.Rules.{rules}
 use Rattle.draining.specs.Following.{Follows}
 use Rattle.steps.proofs.DrainLaws.{next-turn, next-listed}
 use Rattle.steps.proofs.source.next_event.Goals as goal

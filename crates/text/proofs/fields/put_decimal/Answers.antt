@@ -1,6 +1,5 @@
 -- `text::put_decimal` meets its contract: at most two digits, at most four, or any number.
 use native.Mathlib.Omega.{arith}
-use borrow.Author.Rules.{rules}
 use Rattle.text.proofs.TextLaws.{decimal-four, puts-append}
 use Rattle.text.proofs.fields.put_decimal.Goals as goal
 

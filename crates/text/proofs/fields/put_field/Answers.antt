@@ -1,9 +1,8 @@
 -- `text::put_field` meets its contract: a space, and the number after it.
 use lib.ListN.{length-set}
 use native.Mathlib.Omega.{arith}
-use borrow.Author.Rules.{rules}
 use Rattle.text.specs.Text.{field}
-use Rattle.text.proofs.TextLaws.{puts_one, puts-append, puts-length}
+use Rattle.text.proofs.TextLaws.{puts_one, puts-append}
 use Rattle.text.proofs.fields.put_field.Goals as goal
 
 pub put_decimal-requires : goal.put_decimal-requires

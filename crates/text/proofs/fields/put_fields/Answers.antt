@@ -1,12 +1,8 @@
 -- `text::put_fields` meets its contract: the fields of the first i numbers are put.
-use Prim.Native.Nat.{◌+◌, ◌-◌, ◌*◌, ◌≤◌}
 use mathlib.Core.List.{flat_map}
-use lib.ListN.{length, take}
 use lib.Seq.{take_all}
 use native.Mathlib.Omega.{arith}
-use borrow.Author.Rules.{rules}
 use Rattle.text.specs.Text.{field}
-use Rattle.text.specs.TextContracts.{PutsAt}
 use Rattle.text.proofs.TextLaws.{flat-take, puts_none, puts-append, puts-length}
 use Rattle.text.proofs.fields.put_fields.Goals as goal
 

@@ -2,12 +2,8 @@
 use Prim.Native.Nat.{◌+◌, ◌-◌, ◌*◌, ◌≤◌}
 use mathlib.Core.List.{flat_map}
 use lib.ListN.{length, take}
-use lib.Seq.{take_all}
-use native.Mathlib.Omega.{arith}
-use borrow.Author.Rules.{rules}
 use Rattle.text.specs.Text.{field}
 use Rattle.text.specs.TextContracts.{PutsAt}
-use Rattle.text.proofs.TextLaws.{flat-take, puts_none, puts-append, puts-length}
 use Rattle.text.proofs.fields.put_fields.Given as goal
 
 abbrev pub invariant-loop-i : goal.invariant-loop-i

@@ -1,6 +1,5 @@
 -- `text::put_two` meets its contract: one digit, or two.
 use native.Mathlib.Omega.{arith}
-use borrow.Author.Rules.{rules}
 use Rattle.text.proofs.TextLaws.{decimal-one, decimal-two, puts-append}
 use Rattle.text.proofs.fields.put_two.Goals as goal
 

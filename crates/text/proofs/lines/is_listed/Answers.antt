@@ -1,7 +1,6 @@
 -- `lines::is_listed` meets its contract, test by test.
 use mathlib.Core.Path.{ap}
 use mathlib.Core.Bool.{not}
-use borrow.Author.Rules.{rules}
 use borrow.Author.Tests.{eq-eqb, ne_eqb}
 use Rattle.text.proofs.lines.is_listed.Goals as goal
 

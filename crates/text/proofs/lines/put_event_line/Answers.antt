@@ -1,9 +1,8 @@
 -- `lines::put_event_line` meets its contract: the index, the fields and the line's end, of 4 + 12 + 11 + 12 + 1 bytes at most.
 use mathlib.Core.List.{[], ◌∷◌}
 use native.Mathlib.Omega.{arith}
-use borrow.Author.Rules.{rules}
 use Rattle.text.specs.Text.{event_text}
-use Rattle.text.proofs.TextLaws.{decimal-within, fields_within, puts_one, puts-append, puts-length}
+use Rattle.text.proofs.TextLaws.{decimal-within, fields_within, puts_one, puts-append}
 use Rattle.text.proofs.lines.put_event_line.Goals as goal
 
 pub returns : goal.returns

@@ -9,7 +9,7 @@ use borrow.Author.Rules.{rules}
 use mir.Syntax.{w8}
 use mir.Val.{Fits}
 use Rattle.text.specs.Text.{field}
-use Rattle.text.proofs.TextLaws.{fields_within, flat-prefix, puts_one, puts-append, puts-length}
+use Rattle.text.proofs.TextLaws.{fields_within, flat-prefix, puts_one, puts-append}
 use Rattle.text.proofs.LineLaws.{numbers, label-text}
 use Rattle.text.proofs.lines.put_label_line.Goals as goal
 

@@ -1,15 +1,11 @@
 -- `lines::put_label_lines` meets its contract: the lines of the stations below i are put, of at most 16 · 69 bytes each.
-use Prim.Native.Nat.{◌+◌, ◌-◌, ◌*◌, ◌≤◌}
 use mathlib.Core.List.{flat_map}
 use mathlib.Core.Path.{◌≡◌}
 use native.Mathlib.Omega.{arith}
-use borrow.Author.Rules.{rules}
 use Rattle.model.specs.Printout.{label_lines}
 use Rattle.network.specs.View.{view}
 use Rattle.network.proofs.Bounds.{sized}
 use Rattle.network.proofs.Ranged.{Ranged, in-range-ranged}
-use Rattle.text.specs.Text.{label_text}
-use Rattle.text.specs.TextContracts.{PutsAt}
 use Rattle.text.proofs.TextLaws.{puts_none, puts-append, puts-length}
 use Rattle.text.proofs.LineLaws.{lines_more}
 use Rattle.text.proofs.lines.put_label_lines.Goals as goal

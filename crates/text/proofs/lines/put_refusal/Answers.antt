@@ -1,8 +1,7 @@
 -- `lines::put_refusal` meets its contract: the letter, the number's field and the line's end.
 use lib.ListN.{length-set}
 use native.Mathlib.Omega.{arith}
-use borrow.Author.Rules.{rules}
-use Rattle.text.proofs.TextLaws.{puts_one, puts-append, puts-length}
+use Rattle.text.proofs.TextLaws.{puts_one, puts-append}
 use Rattle.text.proofs.LineLaws.{refusal-text}
 use Rattle.text.proofs.lines.put_refusal.Goals as goal
 
