@@ -32,8 +32,7 @@
  * A station keeps its last one, a packet carries that of its sending, and an entry of a row keeps that
  * of the reply that made it.
  *
- * STACK. A call uses the caller's stack and allocates nothing. Up to 199,664 bytes were measured, of
- * srp_rehearse 259,032, and up to 1,136 more where a label of the script needs the longest search
+ * STACK. A call uses the caller's stack and allocates nothing. Up to 242,760 bytes were measured
  * (docs/LAYOUT.md, "Stack"); the library's tests fail where a call needs over 262,144.
  *
  * LINKING. The library needs memcpy and memset, and no other function.
