@@ -85,7 +85,7 @@ new_label_by splits a c v =
     else if above c a then took a
     else splits c v
 
--- By the rule of F-6. So it is with every name that stands beside one ending in `By`.
+-- By the rule of F-6. So it is with every name that stands beside one ending in `_by`.
 abbrev pub new_label : Label → Label → Label → Outcome
 new_label = new_label_by split
 

@@ -7,11 +7,16 @@ use Rattle.console.proofs.previewing.srp_preview.Goals as goal
 
 pub returns-then-refused : goal.returns-then-refused
 returns-then-refused c =
-    rw c.packed.ensures (preview-refused _ _ _ ((c.preview-seen.ensures ∙ ap (λ net1. preview net1 c.args.k) c.load.ensures)) (was-true _ _ c.refused.ensures c.if-refused.true))
+    let seen = c.preview-seen.ensures ∙ ap (λ net. preview net c.args.k) c.load.ensures in
+    rw c.packed.ensures (preview-refused _ _ _ seen (was-true _ _ c.refused.ensures c.if-refused.true))
 
 pub returns-then-out-lt-PREVIEW_BYTES : goal.returns-then-out-lt-PREVIEW_BYTES
-returns-then-out-lt-PREVIEW_BYTES c = preview-12 _ _ _ ((c.preview-seen.ensures ∙ ap (λ net2. preview net2 c.args.k) c.load.ensures)) ((was-false _ _ c.refused.ensures c.if-refused.false)) c.if-out-lt-PREVIEW_BYTES.true
+returns-then-out-lt-PREVIEW_BYTES c =
+    let seen = c.preview-seen.ensures ∙ ap (λ net. preview net c.args.k) c.load.ensures in
+    preview-12 _ _ _ seen (was-false _ _ c.refused.ensures c.if-refused.false) c.if-out-lt-PREVIEW_BYTES.true
 
 pub returns : goal.returns
 returns c =
-    preview-shown _ _ _ ((c.preview-seen.ensures ∙ ap (λ net4. preview net4 c.args.k) c.load.ensures)) ((was-false _ _ c.refused.ensures c.if-refused.false)) c.if-out-lt-PREVIEW_BYTES.false _ _ c.packed-2.ensures c.put_preview.ensures
+    let seen = c.preview-seen.ensures ∙ ap (λ net. preview net c.args.k) c.load.ensures in
+    let accepted = was-false _ _ c.refused.ensures c.if-refused.false in
+    preview-shown _ _ _ seen accepted c.if-out-lt-PREVIEW_BYTES.false _ _ c.packed-2.ensures c.put_preview.ensures

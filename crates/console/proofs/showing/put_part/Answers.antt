@@ -1,5 +1,4 @@
 -- `showing::put_part` meets its contract, by the part: what is read where it stands is put.
-use Prim.Native.Nat.{◌<◌}
 use mathlib.Core.Path.{sym, ap, ◌∙◌}
 use mathlib.Core.Logic.{inl, inr}
 use lib.Seq.{sets}
@@ -13,83 +12,104 @@ use Rattle.console.proofs.ShownLaws.{cell_below, station-there, packet-there, pa
 use Rattle.console.proofs.showing.put_part.Goals as goal
 
 pub overflow_mul-i : goal.overflow_mul-i
-overflow_mul-i c = omega (arith, (let at-at_label : (c.args.i < 16) × (c.args.t < 16) = (cell_below c.args.memory.now c.requires.1 c.requires.2 c.args.i c.args.t c.args.part c.requires.3) (inl c.if-part-eq-LABEL.true) in at-at_label))
+overflow_mul-i c =
+    omega (arith, cell_below c.args.memory.now c.requires.1 c.requires.2 c.args.i c.args.t c.args.part c.requires.3 (inl c.if-part-eq-LABEL.true))
 
 pub overflow_add-i : goal.overflow_add-i
-overflow_add-i c = omega (arith, (let at-at_label : (c.args.i < 16) × (c.args.t < 16) = (cell_below c.args.memory.now c.requires.1 c.requires.2 c.args.i c.args.t c.args.part c.requires.3) (inl c.if-part-eq-LABEL.true) in at-at_label))
+overflow_add-i c =
+    omega (arith, cell_below c.args.memory.now c.requires.1 c.requires.2 c.args.i c.args.t c.args.part c.requires.3 (inl c.if-part-eq-LABEL.true))
 
 pub overflow_mul-i-then-part-eq-LABEL : goal.overflow_mul-i-then-part-eq-LABEL
-overflow_mul-i-then-part-eq-LABEL c = omega (arith, (let at-at_label : (c.args.i < 16) × (c.args.t < 16) = (cell_below c.args.memory.now c.requires.1 c.requires.2 c.args.i c.args.t c.args.part c.requires.3) (inl c.if-part-eq-LABEL.true) in at-at_label))
+overflow_mul-i-then-part-eq-LABEL c =
+    omega (arith, cell_below c.args.memory.now c.requires.1 c.requires.2 c.args.i c.args.t c.args.part c.requires.3 (inl c.if-part-eq-LABEL.true))
 
 pub overflow_add-i-then-part-eq-LABEL : goal.overflow_add-i-then-part-eq-LABEL
-overflow_add-i-then-part-eq-LABEL c = omega (arith, (let at-at_label : (c.args.i < 16) × (c.args.t < 16) = (cell_below c.args.memory.now c.requires.1 c.requires.2 c.args.i c.args.t c.args.part c.requires.3) (inl c.if-part-eq-LABEL.true) in at-at_label))
+overflow_add-i-then-part-eq-LABEL c =
+    omega (arith, cell_below c.args.memory.now c.requires.1 c.requires.2 c.args.i c.args.t c.args.part c.requires.3 (inl c.if-part-eq-LABEL.true))
 
 pub read_label-requires : goal.read_label-requires
-read_label-requires c = omega (arith, (let at-at_label : (c.args.i < 16) × (c.args.t < 16) = (cell_below c.args.memory.now c.requires.1 c.requires.2 c.args.i c.args.t c.args.part c.requires.3) (inl c.if-part-eq-LABEL.true) in at-at_label), c.requires.0)
+read_label-requires c =
+    omega (arith, cell_below c.args.memory.now c.requires.1 c.requires.2 c.args.i c.args.t c.args.part c.requires.3 (inl c.if-part-eq-LABEL.true), c.requires.0)
 
 pub put_label-requires : goal.put_label-requires
 put_label-requires c =
     omega (arith, c.requires.4, (part-label c.args.memory.now c.args.i c.args.t c.args.part c.if-part-eq-LABEL.true).1)
 
 pub overflow_mul-i-then-part-eq-ROW : goal.overflow_mul-i-then-part-eq-ROW
-overflow_mul-i-then-part-eq-ROW c = omega (arith, (let at-at_row : (c.args.i < 16) × (c.args.t < 16) = (cell_below c.args.memory.now c.requires.1 c.requires.2 c.args.i c.args.t c.args.part c.requires.3) (inr (inl c.if-part-eq-ROW.true)) in at-at_row))
+overflow_mul-i-then-part-eq-ROW c =
+    omega (arith, cell_below c.args.memory.now c.requires.1 c.requires.2 c.args.i c.args.t c.args.part c.requires.3 (inr (inl c.if-part-eq-ROW.true)))
 
 pub overflow_add-i-then-part-eq-ROW : goal.overflow_add-i-then-part-eq-ROW
-overflow_add-i-then-part-eq-ROW c = omega (arith, (let at-at_row : (c.args.i < 16) × (c.args.t < 16) = (cell_below c.args.memory.now c.requires.1 c.requires.2 c.args.i c.args.t c.args.part c.requires.3) (inr (inl c.if-part-eq-ROW.true)) in at-at_row))
+overflow_add-i-then-part-eq-ROW c =
+    omega (arith, cell_below c.args.memory.now c.requires.1 c.requires.2 c.args.i c.args.t c.args.part c.requires.3 (inr (inl c.if-part-eq-ROW.true)))
 
 pub overflow_mul-i-then-part-eq-ROW-2 : goal.overflow_mul-i-then-part-eq-ROW-2
-overflow_mul-i-then-part-eq-ROW-2 c = omega (arith, (let at-at_row : (c.args.i < 16) × (c.args.t < 16) = (cell_below c.args.memory.now c.requires.1 c.requires.2 c.args.i c.args.t c.args.part c.requires.3) (inr (inl c.if-part-eq-ROW.true)) in at-at_row))
+overflow_mul-i-then-part-eq-ROW-2 c =
+    omega (arith, cell_below c.args.memory.now c.requires.1 c.requires.2 c.args.i c.args.t c.args.part c.requires.3 (inr (inl c.if-part-eq-ROW.true)))
 
 pub overflow_add-i-then-part-eq-ROW-2 : goal.overflow_add-i-then-part-eq-ROW-2
-overflow_add-i-then-part-eq-ROW-2 c = omega (arith, (let at-at_row : (c.args.i < 16) × (c.args.t < 16) = (cell_below c.args.memory.now c.requires.1 c.requires.2 c.args.i c.args.t c.args.part c.requires.3) (inr (inl c.if-part-eq-ROW.true)) in at-at_row))
+overflow_add-i-then-part-eq-ROW-2 c =
+    omega (arith, cell_below c.args.memory.now c.requires.1 c.requires.2 c.args.i c.args.t c.args.part c.requires.3 (inr (inl c.if-part-eq-ROW.true)))
 
 pub read_row-requires : goal.read_row-requires
-read_row-requires c = omega (arith, (let at-at_row : (c.args.i < 16) × (c.args.t < 16) = (cell_below c.args.memory.now c.requires.1 c.requires.2 c.args.i c.args.t c.args.part c.requires.3) (inr (inl c.if-part-eq-ROW.true)) in at-at_row), c.requires.0)
+read_row-requires c =
+    omega (arith, cell_below c.args.memory.now c.requires.1 c.requires.2 c.args.i c.args.t c.args.part c.requires.3 (inr (inl c.if-part-eq-ROW.true)), c.requires.0)
 
 pub put_row-requires : goal.put_row-requires
 put_row-requires c =
     omega (arith, c.requires.4, (part-row c.args.memory.now c.args.i c.args.t c.args.part c.if-part-eq-ROW.true).1)
 
 pub overflow_mul-i-then-part-eq-RECORD : goal.overflow_mul-i-then-part-eq-RECORD
-overflow_mul-i-then-part-eq-RECORD c = omega (arith, (let at-at-record : (c.args.i < 16) × (c.args.t < 16) = (cell_below c.args.memory.now c.requires.1 c.requires.2 c.args.i c.args.t c.args.part c.requires.3) (inr (inr c.if-part-eq-RECORD.true)) in at-at-record))
+overflow_mul-i-then-part-eq-RECORD c =
+    omega (arith, cell_below c.args.memory.now c.requires.1 c.requires.2 c.args.i c.args.t c.args.part c.requires.3 (inr (inr c.if-part-eq-RECORD.true)))
 
 pub overflow_add-i-then-part-eq-RECORD : goal.overflow_add-i-then-part-eq-RECORD
-overflow_add-i-then-part-eq-RECORD c = omega (arith, (let at-at-record : (c.args.i < 16) × (c.args.t < 16) = (cell_below c.args.memory.now c.requires.1 c.requires.2 c.args.i c.args.t c.args.part c.requires.3) (inr (inr c.if-part-eq-RECORD.true)) in at-at-record))
+overflow_add-i-then-part-eq-RECORD c =
+    omega (arith, cell_below c.args.memory.now c.requires.1 c.requires.2 c.args.i c.args.t c.args.part c.requires.3 (inr (inr c.if-part-eq-RECORD.true)))
 
 pub overflow_mul-i-then-part-eq-RECORD-2 : goal.overflow_mul-i-then-part-eq-RECORD-2
-overflow_mul-i-then-part-eq-RECORD-2 c = omega (arith, (let at-at-record : (c.args.i < 16) × (c.args.t < 16) = (cell_below c.args.memory.now c.requires.1 c.requires.2 c.args.i c.args.t c.args.part c.requires.3) (inr (inr c.if-part-eq-RECORD.true)) in at-at-record))
+overflow_mul-i-then-part-eq-RECORD-2 c =
+    omega (arith, cell_below c.args.memory.now c.requires.1 c.requires.2 c.args.i c.args.t c.args.part c.requires.3 (inr (inr c.if-part-eq-RECORD.true)))
 
 pub overflow_add-i-then-part-eq-RECORD-2 : goal.overflow_add-i-then-part-eq-RECORD-2
-overflow_add-i-then-part-eq-RECORD-2 c = omega (arith, (let at-at-record : (c.args.i < 16) × (c.args.t < 16) = (cell_below c.args.memory.now c.requires.1 c.requires.2 c.args.i c.args.t c.args.part c.requires.3) (inr (inr c.if-part-eq-RECORD.true)) in at-at-record))
+overflow_add-i-then-part-eq-RECORD-2 c =
+    omega (arith, cell_below c.args.memory.now c.requires.1 c.requires.2 c.args.i c.args.t c.args.part c.requires.3 (inr (inr c.if-part-eq-RECORD.true)))
 
 pub read_record-requires : goal.read_record-requires
-read_record-requires c = omega (arith, (let at-at-record : (c.args.i < 16) × (c.args.t < 16) = (cell_below c.args.memory.now c.requires.1 c.requires.2 c.args.i c.args.t c.args.part c.requires.3) (inr (inr c.if-part-eq-RECORD.true)) in at-at-record), c.requires.0)
+read_record-requires c =
+    omega (arith, cell_below c.args.memory.now c.requires.1 c.requires.2 c.args.i c.args.t c.args.part c.requires.3 (inr (inr c.if-part-eq-RECORD.true)), c.requires.0)
 
 pub put_record-requires : goal.put_record-requires
 put_record-requires c =
     omega (arith, c.requires.4, (part-record c.args.memory.now c.args.i c.args.t c.args.part c.if-part-eq-RECORD.true).1)
 
 pub overflow_mul-i-then-part-eq-STATION : goal.overflow_mul-i-then-part-eq-STATION
-overflow_mul-i-then-part-eq-STATION c = omega (arith, (station-there c.args.memory.now c.requires.1 c.requires.2 c.args.i c.args.t c.args.part c.requires.3 c.if-part-eq-STATION.true))
+overflow_mul-i-then-part-eq-STATION c =
+    omega (arith, station-there c.args.memory.now c.requires.1 c.requires.2 c.args.i c.args.t c.args.part c.requires.3 c.if-part-eq-STATION.true)
 
 pub overflow_add-i-then-part-eq-STATION : goal.overflow_add-i-then-part-eq-STATION
-overflow_add-i-then-part-eq-STATION c = omega (arith, (station-there c.args.memory.now c.requires.1 c.requires.2 c.args.i c.args.t c.args.part c.requires.3 c.if-part-eq-STATION.true))
+overflow_add-i-then-part-eq-STATION c =
+    omega (arith, station-there c.args.memory.now c.requires.1 c.requires.2 c.args.i c.args.t c.args.part c.requires.3 c.if-part-eq-STATION.true)
 
 pub read_station-requires : goal.read_station-requires
-read_station-requires c = omega (arith, (station-there c.args.memory.now c.requires.1 c.requires.2 c.args.i c.args.t c.args.part c.requires.3 c.if-part-eq-STATION.true), c.requires.0)
+read_station-requires c =
+    omega (arith, station-there c.args.memory.now c.requires.1 c.requires.2 c.args.i c.args.t c.args.part c.requires.3 c.if-part-eq-STATION.true, c.requires.0)
 
 pub put_station-requires : goal.put_station-requires
 put_station-requires c =
     omega (arith, c.requires.4, (part-station c.args.memory.now c.args.i c.args.t c.args.part c.if-part-eq-STATION.true).1)
 
 pub overflow_mul-i-else-part-eq-STATION : goal.overflow_mul-i-else-part-eq-STATION
-overflow_mul-i-else-part-eq-STATION c = omega (arith, (packet-there c.args.memory.now c.requires.1 c.requires.2 c.args.i c.args.t c.args.part c.requires.3 c.if-part-eq-LABEL.false c.if-part-eq-ROW.false c.if-part-eq-RECORD.false c.if-part-eq-STATION.false))
+overflow_mul-i-else-part-eq-STATION c =
+    omega (arith, packet-there c.args.memory.now c.requires.1 c.requires.2 c.args.i c.args.t c.args.part c.requires.3 c.if-part-eq-LABEL.false c.if-part-eq-ROW.false c.if-part-eq-RECORD.false c.if-part-eq-STATION.false)
 
 pub overflow_add-i-else-part-eq-STATION : goal.overflow_add-i-else-part-eq-STATION
-overflow_add-i-else-part-eq-STATION c = omega (arith, (packet-there c.args.memory.now c.requires.1 c.requires.2 c.args.i c.args.t c.args.part c.requires.3 c.if-part-eq-LABEL.false c.if-part-eq-ROW.false c.if-part-eq-RECORD.false c.if-part-eq-STATION.false))
+overflow_add-i-else-part-eq-STATION c =
+    omega (arith, packet-there c.args.memory.now c.requires.1 c.requires.2 c.args.i c.args.t c.args.part c.requires.3 c.if-part-eq-LABEL.false c.if-part-eq-ROW.false c.if-part-eq-RECORD.false c.if-part-eq-STATION.false)
 
 pub read_packet-requires : goal.read_packet-requires
-read_packet-requires c = omega (arith, (packet-there c.args.memory.now c.requires.1 c.requires.2 c.args.i c.args.t c.args.part c.requires.3 c.if-part-eq-LABEL.false c.if-part-eq-ROW.false c.if-part-eq-RECORD.false c.if-part-eq-STATION.false), c.requires.0)
+read_packet-requires c =
+    omega (arith, packet-there c.args.memory.now c.requires.1 c.requires.2 c.args.i c.args.t c.args.part c.requires.3 c.if-part-eq-LABEL.false c.if-part-eq-ROW.false c.if-part-eq-RECORD.false c.if-part-eq-STATION.false, c.requires.0)
 
 pub put_packet-requires : goal.put_packet-requires
 put_packet-requires c =

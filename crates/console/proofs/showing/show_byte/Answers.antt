@@ -9,7 +9,7 @@ pub returns-then-out_of_range : goal.returns-then-out_of_range
 returns-then-out_of_range c = tells-1 _ _ (was-true _ _ c.out_of_range.ensures c.if-out_of_range.true)
 
 pub bounds-memory-at : goal.bounds-memory-at
-bounds-memory-at c = omega (arith, (range-readable _ (was-false _ _ c.out_of_range.ensures c.if-out_of_range.false)))
+bounds-memory-at c = omega (arith, range-readable _ (was-false _ _ c.out_of_range.ensures c.if-out_of_range.false))
 
 pub returns : goal.returns
 returns c =

@@ -10,16 +10,21 @@ pub returns-then-out_of_range : goal.returns-then-out_of_range
 returns-then-out_of_range c = tells-1 _ _ (was-true _ _ c.out_of_range.ensures c.if-out_of_range.true)
 
 pub bounds-memory-1 : goal.bounds-memory-1
-bounds-memory-1 c = omega (arith, (range-readable _ (was-false _ _ c.out_of_range.ensures c.if-out_of_range.false)))
+bounds-memory-1 c = omega (arith, range-readable _ (was-false _ _ c.out_of_range.ensures c.if-out_of_range.false))
 
 pub returns-then-not_pair : goal.returns-then-not_pair
 returns-then-not_pair c =
-    tells-refused _ _ 2 (was-false _ _ c.out_of_range.ensures c.if-out_of_range.false) (show-link-2 _ (range-readable _ (was-false _ _ c.out_of_range.ensures c.if-out_of_range.false)) _ _ (was-true _ _ c.not_pair.ensures c.if-not_pair.true))
+    let within = was-false _ _ c.out_of_range.ensures c.if-out_of_range.false in
+    tells-refused _ _ 2 within (show-link-2 _ (range-readable _ within) _ _ (was-true _ _ c.not_pair.ensures c.if-not_pair.true))
 
 pub read_link-up-requires : goal.read_link-up-requires
-read_link-up-requires c = omega (arith, c.pair_place-at.ensures, (pair-below c.args.memory.now (range-readable _ (was-false _ _ c.out_of_range.ensures c.if-out_of_range.false)).few _ _ ((was-false _ _ c.not_pair.ensures c.if-not_pair.false))), (range-readable _ (was-false _ _ c.out_of_range.ensures c.if-out_of_range.false)))
+read_link-up-requires c =
+    let readable = range-readable _ (was-false _ _ c.out_of_range.ensures c.if-out_of_range.false) in
+    let pair = was-false _ _ c.not_pair.ensures c.if-not_pair.false in
+    omega (arith, c.pair_place-at.ensures, pair-below c.args.memory.now readable.few _ _ pair, readable)
 
 pub returns : goal.returns
 returns c =
-    tells-value _ _ _ _ (was-false _ _ c.out_of_range.ensures c.if-out_of_range.false) (show-link _ (range-readable _ (was-false _ _ c.out_of_range.ensures c.if-out_of_range.false)) _ _ ((was-false _ _ c.not_pair.ensures c.if-not_pair.false)))
-    (c.packed.ensures ∙ rw (c.read_link-up.ensures, c.pair_place-at.ensures))
+    let within = was-false _ _ c.out_of_range.ensures c.if-out_of_range.false in
+    let pair = was-false _ _ c.not_pair.ensures c.if-not_pair.false in
+    tells-value _ _ _ _ within (show-link _ (range-readable _ within) _ _ pair) (c.packed.ensures ∙ rw (c.read_link-up.ensures, c.pair_place-at.ensures))

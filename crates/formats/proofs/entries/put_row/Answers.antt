@@ -4,7 +4,7 @@ use mathlib.Core.Path.{◌≡◌, refl, ◌∙◌}
 use mathlib.Core.List.{[], ◌∷◌, flat_map}
 use native.Mathlib.Omega.{arith}
 use Rattle.base.specs.Lists.{tabulate}
-use Rattle.rows.proofs.Bounds.{RowLengths, row-lengths}
+use Rattle.rows.proofs.Bounds.{row-lengths}
 use Rattle.codec.proofs.ByteLaws.{sets-next}
 use Rattle.model.specs.Memory.{row_limit}
 use Rattle.rows.proofs.RowLaws.{row-length}
@@ -43,5 +43,5 @@ returns c =
     let put = loop.invariant.1 in (
       put.stands ∙ rw (all, c.put_byte.ensures, row-length row) (sets-next c.args.out.now c.args.at (c.args.at + 1) (row.count ∷ [])
           (flat_map successor_bytes (tabulate row_limit (entry_in row))) refl),
-      record { each = λ k h. put.fits k (omega arith); past = row-past row ((let at-long : RowLengths c.args.row = row-lengths c.args.row c.well_formed.1.1.0 in at-long)) },
+      record { each = λ k h. put.fits k (omega arith); past = row-past row (row-lengths row c.well_formed.1.1.0) },
     )

@@ -2,7 +2,6 @@
 use Prim.Native.Nat.{◌+◌}
 use mathlib.Core.Path.{◌≡◌, refl, sym, ◌∙◌}
 use mathlib.Core.List.{[], ◌∷◌, flat_map}
-use lib.ListN.{length}
 use native.Mathlib.Omega.{arith}
 use Rattle.base.specs.Lists.{tabulate}
 use Rattle.network.proofs.Bounds.{packets-length}
@@ -47,5 +46,5 @@ returns c =
     let put = loop.invariant.1 in (
       put.stands ∙ rw (all, c.put_byte.ensures, air-length air) (sets-next c.args.out.now c.args.at (c.args.at + 1) (air.count ∷ [])
           (flat_map packet_bytes (tabulate air_limit (packet_or air))) refl),
-      record { each = λ k h. put.fits k (omega arith); past = air-past air ((let at-room : length c.args.air.packets ≡ air_limit = packets-length c.args.air c.well_formed.1.1.0 in at-room)) },
+      record { each = λ k h. put.fits k (omega arith); past = air-past air (packets-length air c.well_formed.1.1.0) },
     )

@@ -22,22 +22,18 @@ abbrev put : ℕ → List ℕ → List ℕ → List ℕ
 put at bytes out = sets out at bytes
 
 pub put_air-requires : goal.put_air-requires
-put_air-requires c = omega (
-  arith,
-  c.requires,
-  (let at-kept : length c.write_records.new.out ≡ length c.args.out.now = c.write_records.auto.out ∙ c.write_rows.auto.out ∙ c.write_labels.auto.out ∙ c.write_links.auto.out
-      ∙ c.write_stations.auto.out ∙ c.put_byte-2.auto.out ∙ c.put_byte.auto.out in at-kept),
-)
+put_air-requires c =
+    let kept : length c.write_records.new.out ≡ length c.args.out.now =
+    c.write_records.auto.out ∙ c.write_rows.auto.out ∙ c.write_labels.auto.out ∙ c.write_links.auto.out ∙ c.write_stations.auto.out ∙ c.put_byte-2.auto.out
+    ∙ c.put_byte.auto.out in
+    omega (arith, c.requires, kept)
 
 pub put_byte-requires-3 : goal.put_byte-requires-3
 put_byte-requires-3 c =
-    omega (
-      arith,
-      c.requires,
-      (let at-kept : length c.write_records.new.out ≡ length c.args.out.now = c.write_records.auto.out ∙ c.write_rows.auto.out ∙ c.write_labels.auto.out ∙ c.write_links.auto.out
-          ∙ c.write_stations.auto.out ∙ c.put_byte-2.auto.out ∙ c.put_byte.auto.out in at-kept),
-      c.put_air.auto.out,
-    )
+    let kept : length c.write_records.new.out ≡ length c.args.out.now =
+    c.write_records.auto.out ∙ c.write_rows.auto.out ∙ c.write_labels.auto.out ∙ c.write_links.auto.out ∙ c.write_stations.auto.out ∙ c.put_byte-2.auto.out
+    ∙ c.put_byte.auto.out in
+    omega (arith, c.requires, kept, c.put_air.auto.out)
 
 pub returns : goal.returns
 unfolding view stations_from

@@ -29,16 +29,28 @@ loop-b-init c =
     (omega arith, omega arith, record { room = array-length c.args.packets c.well_formed.0; list = sym (append-nil (packets_of c.args.packets c.args.count)) })
 
 pub overflow_cast-at : goal.overflow_cast-at
-overflow_cast-at c = record { fits = omega (arith, room c.args.links c.args.a c.args.n c.args.count _ _ (omega arith) (sym (c.joined.ensures ∙ link_at _ _ _ _ c.pair_place-pair.ensures) ∙ c.if-joined.true) c.loop-b.invariant.1 c.requires.a_bound) }
+overflow_cast-at c =
+    let linked = sym (c.joined.ensures ∙ link_at _ _ _ _ c.pair_place-pair.ensures) ∙ c.if-joined.true in
+    let under = room c.args.links c.args.a c.args.n c.args.count _ _ (omega arith) linked c.loop-b.invariant.1 c.requires.a_bound in
+    record { fits = omega (arith, under) }
 
 pub offset_bounds-packets-at : goal.offset_bounds-packets-at
-offset_bounds-packets-at c = record { fits = omega (arith, room c.args.links c.args.a c.args.n c.args.count _ _ (omega arith) (sym (c.joined.ensures ∙ link_at _ _ _ _ c.pair_place-pair.ensures) ∙ c.if-joined.true) c.loop-b.invariant.1 c.requires.a_bound) }
+offset_bounds-packets-at c =
+    let linked = sym (c.joined.ensures ∙ link_at _ _ _ _ c.pair_place-pair.ensures) ∙ c.if-joined.true in
+    let under = room c.args.links c.args.a c.args.n c.args.count _ _ (omega arith) linked c.loop-b.invariant.1 c.requires.a_bound in
+    record { fits = omega (arith, under) }
 
 pub bounds-packets-at : goal.bounds-packets-at
-bounds-packets-at c = room c.args.links c.args.a c.args.n c.args.count _ _ (omega arith) (sym (c.joined.ensures ∙ link_at _ _ _ _ c.pair_place-pair.ensures) ∙ c.if-joined.true) c.loop-b.invariant.1 c.requires.a_bound
+bounds-packets-at c =
+    let linked = sym (c.joined.ensures ∙ link_at _ _ _ _ c.pair_place-pair.ensures) ∙ c.if-joined.true in
+    let under = room c.args.links c.args.a c.args.n c.args.count _ _ (omega arith) linked c.loop-b.invariant.1 c.requires.a_bound in
+    under
 
 pub overflow_add-end : goal.overflow_add-end
-overflow_add-end c = record { fits = omega (arith, room c.args.links c.args.a c.args.n c.args.count _ _ (omega arith) (sym (c.joined.ensures ∙ link_at _ _ _ _ c.pair_place-pair.ensures) ∙ c.if-joined.true) c.loop-b.invariant.1 c.requires.a_bound) }
+overflow_add-end c =
+    let linked = sym (c.joined.ensures ∙ link_at _ _ _ _ c.pair_place-pair.ensures) ∙ c.if-joined.true in
+    let under = room c.args.links c.args.a c.args.n c.args.count _ _ (omega arith) linked c.loop-b.invariant.1 c.requires.a_bound in
+    record { fits = omega (arith, under) }
 
 pub loop-b-preserved : goal.loop-b-preserved
 loop-b-preserved c =

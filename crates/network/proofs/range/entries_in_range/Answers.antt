@@ -12,10 +12,16 @@ loop-k-init c = (omega arith, all_none _)
 
 pub returns-then-not-entry_in_range : goal.returns-then-not-entry_in_range
 unfolding row_of
-returns-then-not-entry_in_range c = sym (all-tabulate _ _ _ ∙ all-broken _ _ _ (omega arith) (was-false _ _ ((let at-tested : let args = c.args in c.entry_in_range.result ≡ successor_in_range args.n args.i (entry_of args.row c.loop-k.k) = rw c.entry-e.ensures at c.entry_in_range.ensures in at-tested)) c.if-not-entry_in_range.true))
+returns-then-not-entry_in_range c =
+    let args = c.args in
+    let tested : c.entry_in_range.result ≡ successor_in_range args.n args.i (entry_of args.row c.loop-k.k) = rw c.entry-e.ensures at c.entry_in_range.ensures in
+    sym (all-tabulate _ _ _ ∙ all-broken _ _ _ (omega arith) (was-false _ _ tested c.if-not-entry_in_range.true))
 
 pub loop-k-preserved : goal.loop-k-preserved
-loop-k-preserved c = (omega arith, all_more _ _ c.loop-k.invariant.1 (was-true _ _ ((let at-tested : let args = c.args in c.entry_in_range.result ≡ successor_in_range args.n args.i (entry_of args.row c.loop-k.k) = rw c.entry-e.ensures at c.entry_in_range.ensures in at-tested)) c.if-not-entry_in_range.false))
+loop-k-preserved c =
+    let args = c.args in
+    let tested : c.entry_in_range.result ≡ successor_in_range args.n args.i (entry_of args.row c.loop-k.k) = rw c.entry-e.ensures at c.entry_in_range.ensures in
+    (omega arith, all_more _ _ c.loop-k.invariant.1 (was-true _ _ tested c.if-not-entry_in_range.false))
 
 pub returns : goal.returns
 unfolding row_of

@@ -27,46 +27,76 @@ refused-so r script limit out number e is =
 
 pub returns-then-answer-ne0 : goal.returns-then-answer-ne0
 returns-then-answer-ne0 c =
-    let both = refused-so _ c.args.script.now c.args.limit c.args.out.now _ (rehearsing-unread _ _ _ _ (not-read _ _ _ c.read-found.result c.read-found.ensures.read c.if-answer-ne0.true)) c.turned_down.ensures in
+    let args = c.args in
+    let ends = rehearsing-unread _ _ _ _ (not-read _ _ _ c.read-found.result c.read-found.ensures.read c.if-answer-ne0.true) in
+    let both = refused-so _ args.script.now args.limit args.out.now _ ends c.turned_down.ensures in
     record { text = both.0; loop_free = both.1; tally = both.2; bounded = both.3 }
 
 pub returns-then-limit_refused : goal.returns-then-limit_refused
 returns-then-limit_refused c =
-    let both = refused-so _ c.args.script.now c.args.limit c.args.out.now 14 (rehearsing-14 _ _ _ _ (scripted _ _ _ c.read-found.result c.read-found.ensures.read c.if-answer-ne0.false).reads (sym c.limit_refused.ensures ∙ c.if-limit_refused.true)) c.turned_down-then-limit_refused.ensures in
+    let args = c.args in
+    let read = scripted _ _ _ c.read-found.result c.read-found.ensures.read c.if-answer-ne0.false in
+    let ends = rehearsing-14 _ _ _ _ read.reads (sym c.limit_refused.ensures ∙ c.if-limit_refused.true) in
+    let both = refused-so _ args.script.now args.limit args.out.now 14 ends c.turned_down-then-limit_refused.ensures in
     record { text = both.0; loop_free = both.1; tally = both.2; bounded = both.3 }
 
 pub returns-then-out-lt-ROOM : goal.returns-then-out-lt-ROOM
 returns-then-out-lt-ROOM c =
-    let both = refused-so _ c.args.script.now c.args.limit c.args.out.now 12 (rehearsing-12 _ _ _ _ (scripted _ _ _ c.read-found.result c.read-found.ensures.read c.if-answer-ne0.false).reads (sym c.limit_refused.ensures ∙ c.if-limit_refused.false) (omega arith)) c.turned_down-then-out-lt-ROOM.ensures in
+    let args = c.args in
+    let read = scripted _ _ _ c.read-found.result c.read-found.ensures.read c.if-answer-ne0.false in
+    let fits = sym c.limit_refused.ensures ∙ c.if-limit_refused.false in
+    let ends = rehearsing-12 _ _ _ _ read.reads fits (omega arith) in
+    let both = refused-so _ args.script.now args.limit args.out.now 12 ends c.turned_down-then-out-lt-ROOM.ensures in
     record { text = both.0; loop_free = both.1; tally = both.2; bounded = both.3 }
 
 pub overflow_mul-pairs : goal.overflow_mul-pairs
-overflow_mul-pairs c = record { fits = omega (arith, (scripted _ _ _ c.read-found.result c.read-found.ensures.read c.if-answer-ne0.false).few) }
+overflow_mul-pairs c =
+    let read = scripted _ _ _ c.read-found.result c.read-found.ensures.read c.if-answer-ne0.false in
+    record { fits = omega (arith, read.few) }
 
 pub overflow_cast-limit : goal.overflow_cast-limit
 overflow_cast-limit c = record { fits = omega (arith, limit-tells _ (sym c.limit_refused.ensures ∙ c.if-limit_refused.false)) }
 
 pub slice_bounds-kinds-end : goal.slice_bounds-kinds-end
-slice_bounds-kinds-end c = (scripted _ _ _ c.read-found.result c.read-found.ensures.read c.if-answer-ne0.false).kinds-long.0
+slice_bounds-kinds-end c =
+    let read = scripted _ _ _ c.read-found.result c.read-found.ensures.read c.if-answer-ne0.false in
+    read.kinds-long.0
 
 pub slice_bounds-put_rehearsal-end : goal.slice_bounds-put_rehearsal-end
-slice_bounds-put_rehearsal-end c = sym (scripted _ _ _ c.read-found.result c.read-found.ensures.read c.if-answer-ne0.false).kinds-long.1
+slice_bounds-put_rehearsal-end c =
+    let read = scripted _ _ _ c.read-found.result c.read-found.ensures.read c.if-answer-ne0.false in
+    sym read.kinds-long.1
 
 pub slice_bounds-operands-end : goal.slice_bounds-operands-end
-slice_bounds-operands-end c = (scripted _ _ _ c.read-found.result c.read-found.ensures.read c.if-answer-ne0.false).operands-long.0
+slice_bounds-operands-end c =
+    let read = scripted _ _ _ c.read-found.result c.read-found.ensures.read c.if-answer-ne0.false in
+    read.operands-long.0
 
 pub slice_bounds-put_rehearsal-end-2 : goal.slice_bounds-put_rehearsal-end-2
-slice_bounds-put_rehearsal-end-2 c = sym (scripted _ _ _ c.read-found.result c.read-found.ensures.read c.if-answer-ne0.false).operands-long.1
+slice_bounds-put_rehearsal-end-2 c =
+    let read = scripted _ _ _ c.read-found.result c.read-found.ensures.read c.if-answer-ne0.false in
+    sym read.operands-long.1
 
 pub put_rehearsal-requires : goal.put_rehearsal-requires
 put_rehearsal-requires c =
-    let w = (scripted _ _ _ c.read-found.result c.read-found.ensures.read c.if-answer-ne0.false) in
-    record { start_value = (w.opens, (sym c.limit_refused.ensures ∙ c.if-limit_refused.false), omega (arith, w.few, w.kinds-long.1), w.operands-long.1 ∙ ap (λ k. 2 * k) (sym w.kinds-long.1)); printout_room_in_bounds = omega arith }
+    let read = scripted _ _ _ c.read-found.result c.read-found.ensures.read c.if-answer-ne0.false in
+    let fits = sym c.limit_refused.ensures ∙ c.if-limit_refused.false in
+    let twice = read.operands-long.1 ∙ ap (λ k. 2 * k) (sym read.kinds-long.1) in
+    record { start_value = (read.opens, fits, omega (arith, read.few, read.kinds-long.1), twice); printout_room_in_bounds = omega arith }
 
 pub returns : goal.returns
 unfolding rehearsal_of
 returns c =
     let args = c.args in
     let s = in_arrays c.read-found.result c.read-found.new.kinds c.read-found.new.operands in
+    let read = scripted _ _ _ c.read-found.result c.read-found.ensures.read c.if-answer-ne0.false in
+    let fits = sym c.limit_refused.ensures ∙ c.if-limit_refused.false in
     let made = c.put_rehearsal.ensures in
-    let ends = rehearsing-accepted args.script.now args.limit (length args.out.now) s (scripted _ _ _ c.read-found.result c.read-found.ensures.read c.if-answer-ne0.false).reads (sym c.limit_refused.ensures ∙ c.if-limit_refused.false) (omega arith) in record { text = rehearses-accepted args.script.now args.limit args.out.now (rehearsal_of args.limit s) ends made.puts_at (omega arith) made.answer_value.0 made.answer_value.1; loop_free = routes-loop-free args.script.now args.limit; tally = tally-fits args.script.now args.limit; bounded = made.length_le_printout_room }
+    let answer = made.answer_value in
+    let ends = rehearsing-accepted args.script.now args.limit (length args.out.now) s read.reads fits (omega arith) in
+    record {
+      text = rehearses-accepted args.script.now args.limit args.out.now (rehearsal_of args.limit s) ends made.puts_at (omega arith) answer.0 answer.1;
+      loop_free = routes-loop-free args.script.now args.limit;
+      tally = tally-fits args.script.now args.limit;
+      bounded = made.length_le_printout_room;
+    }

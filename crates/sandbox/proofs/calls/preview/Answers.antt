@@ -12,11 +12,6 @@ returns-then-not-in_range c = c.turned_down.ensures ∙ sym (preview-out-of-rang
 
 pub returns : goal.returns
 returns c =
-    let m = c.args.memory in
-    c.preview_of.ensures m ((let at-ranged : InRange c.args.memory = record {
-      ranged = was-true _ _ c.in_range.ensures c.if-not-in_range.false;
-      lengths = memory-lengths c.args.memory c.well_formed.0;
-    } in at-ranged)) c.gather.ensures ∙ narrow-shown ((let at-ranged : InRange c.args.memory = record {
-      ranged = was-true _ _ c.in_range.ensures c.if-not-in_range.false;
-      lengths = memory-lengths c.args.memory c.well_formed.0;
-    } in at-ranged)) _ c.narrow-a.ensures
+    let args = c.args in
+    let ranged : InRange args.memory = record { ranged = was-true _ _ c.in_range.ensures c.if-not-in_range.false; lengths = memory-lengths args.memory c.well_formed.0 } in
+    c.preview_of.ensures args.memory ranged c.gather.ensures ∙ narrow-shown ranged _ c.narrow-a.ensures

@@ -18,12 +18,20 @@ use Rattle.station.proofs.sending.exchange.Goals as goal
 
 pub returns-then-scope-eq0 : goal.returns-then-scope-eq0
 returns-then-scope-eq0 c =
-    rw (c.if-scope-eq0.true, sent-none, add-zero c.args.last, c.remove.ensures) ((let at-rest-is : let all = packets_of c.args.packets (c.args.last + 1) in packets_of ((let at-rest : List Packet = removed c.args.k c.args.last c.args.packets in at-rest)) c.args.last ≡ remove_at c.args.k all = packets-removed _ _ _ (omega arith) (omega (arith, (let at-long : length c.args.packets ≡ air_limit = array-length c.args.packets c.well_formed.0 in at-long))) in at-rest-is) ∙ sym (append-nil _))
+    let args = c.args in
+    let long : length args.packets ≡ air_limit = array-length args.packets c.well_formed.0 in
+    let rest : List Packet = removed args.k args.last args.packets in
+    let rest-is : packets_of rest args.last ≡ remove_at args.k (packets_of args.packets (args.last + 1)) = packets-removed _ _ _ (omega arith) (omega (arith, long)) in
+    rw (c.if-scope-eq0.true, sent-none, add-zero args.last, c.remove.ensures) (rest-is ∙ sym (append-nil _))
 
 pub returns-then-scope-eq1 : goal.returns-then-scope-eq1
 returns-then-scope-eq1 c =
-    rw (c.if-scope-eq1.true, sent-one, c.replace.ensures)
-    (appended _ _ _ ((let at-rest-length : length ((let at-rest : List Packet = removed c.args.k c.args.last c.args.packets in at-rest)) ≡ air_limit = removed-length _ _ _ (omega arith) (omega (arith, (let at-long : length c.args.packets ≡ air_limit = array-length c.args.packets c.well_formed.0 in at-long))) ∙ (let at-long : length c.args.packets ≡ air_limit = array-length c.args.packets c.well_formed.0 in at-long) in at-rest-length)) (omega arith) ∙ ap (λ (l : List model.Packet). l ++ (packet_of c.args.p ∷ [])) ((let at-rest-is : let all = packets_of c.args.packets (c.args.last + 1) in packets_of ((let at-rest : List Packet = removed c.args.k c.args.last c.args.packets in at-rest)) c.args.last ≡ remove_at c.args.k all = packets-removed _ _ _ (omega arith) (omega (arith, (let at-long : length c.args.packets ≡ air_limit = array-length c.args.packets c.well_formed.0 in at-long))) in at-rest-is)))
+    let args = c.args in
+    let long : length args.packets ≡ air_limit = array-length args.packets c.well_formed.0 in
+    let rest : List Packet = removed args.k args.last args.packets in
+    let rest-is : packets_of rest args.last ≡ remove_at args.k (packets_of args.packets (args.last + 1)) = packets-removed _ _ _ (omega arith) (omega (arith, long)) in
+    let rest-length : length rest ≡ air_limit = removed-length _ _ _ (omega arith) (omega (arith, long)) ∙ long in
+    rw (c.if-scope-eq1.true, sent-one, c.replace.ensures) (appended _ _ _ rest-length (omega arith) ∙ ap (λ (l : List model.Packet). l ++ (packet_of args.p ∷ [])) rest-is)
 
 pub broadcast-requires : goal.broadcast-requires
 broadcast-requires c =
@@ -31,6 +39,10 @@ broadcast-requires c =
 
 pub returns : goal.returns
 returns c =
+    let args = c.args in
+    let long : length args.packets ≡ air_limit = array-length args.packets c.well_formed.0 in
+    let rest : List Packet = removed args.k args.last args.packets in
+    let rest-is : packets_of rest args.last ≡ remove_at args.k (packets_of args.packets (args.last + 1)) = packets-removed _ _ _ (omega arith) (omega (arith, long)) in
     let some = c.if-scope-eq0.false in
     let all = c.if-scope-eq1.false in
-    rw (sent-all-length _ _ _ _ _ some all, sent-all _ _ _ _ _ some all, ← (let at-rest-is : let all = packets_of c.args.packets (c.args.last + 1) in packets_of ((let at-rest : List Packet = removed c.args.k c.args.last c.args.packets in at-rest)) c.args.last ≡ remove_at c.args.k all = packets-removed _ _ _ (omega arith) (omega (arith, (let at-long : length c.args.packets ≡ air_limit = array-length c.args.packets c.well_formed.0 in at-long))) in at-rest-is)) (rw c.remove-2.ensures at c.broadcast.ensures)
+    rw (sent-all-length _ _ _ _ _ some all, sent-all _ _ _ _ _ some all, ← rest-is) (rw c.remove-2.ensures at c.broadcast.ensures)

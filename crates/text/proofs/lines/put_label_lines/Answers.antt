@@ -5,7 +5,7 @@ use native.Mathlib.Omega.{arith}
 use Rattle.model.specs.Printout.{label_lines}
 use Rattle.network.specs.View.{view}
 use Rattle.network.proofs.Bounds.{sized}
-use Rattle.network.proofs.Ranged.{Ranged, in-range-ranged}
+use Rattle.network.proofs.Ranged.{in-range-ranged}
 use Rattle.text.proofs.TextLaws.{puts_none, puts-append, puts-length}
 use Rattle.text.proofs.LineLaws.{lines_more}
 use Rattle.text.proofs.lines.put_label_lines.Goals as goal
@@ -16,39 +16,20 @@ loop-i-init c = (omega arith, puts_none _ _, omega arith)
 
 pub put_station_lines-end-requires : goal.put_station_lines-end-requires
 put_station_lines-end-requires c =
-    record {
-      memory_value = (c.requires.memory_value, omega arith);
-      n_in_bounds = omega (
-        arith,
-        ((let at-ranged : Ranged c.args.memory = in-range-ranged c.args.memory
-            (sized c.args.memory c.well_formed.1.1.0)
-            c.requires.memory_value in at-ranged)).high,
-        puts-length c.loop-i.invariant.1,
-      );
-    }
+    let ranged = in-range-ranged c.args.memory (sized c.args.memory c.well_formed.1.1.0) c.requires.memory_value in
+    record { memory_value = (c.requires.memory_value, omega arith); n_in_bounds = omega (arith, ranged.high, puts-length c.loop-i.invariant.1) }
 
 pub loop-i-preserved : goal.loop-i-preserved
 loop-i-preserved c =
-    let loop = c.loop-i in (
+    let loop = c.loop-i in
+    let ranged = in-range-ranged c.args.memory (sized c.args.memory c.well_formed.1.1.0) c.requires.memory_value in (
       omega arith,
       rw (lines_more (view c.args.memory) loop.i) (puts-append loop.invariant.1 c.put_station_lines-end.ensures.puts_at),
-      omega (
-        arith,
-        ((let at-ranged : Ranged c.args.memory = in-range-ranged c.args.memory
-            (sized c.args.memory c.well_formed.1.1.0)
-            c.requires.memory_value in at-ranged)).high,
-      ),
+      omega (arith, ranged.high),
     )
 
 pub returns : goal.returns
 returns c =
     let whole : c.loop-i.i ≡ c.args.memory.n = omega arith in
-    record {
-      puts_at = rw whole at c.loop-i.invariant.1;
-      upper_bound = omega (
-        arith,
-        ((let at-ranged : Ranged c.args.memory = in-range-ranged c.args.memory
-            (sized c.args.memory c.well_formed.1.1.0)
-            c.requires.memory_value in at-ranged)).high,
-      );
-    }
+    let ranged = in-range-ranged c.args.memory (sized c.args.memory c.well_formed.1.1.0) c.requires.memory_value in
+    record { puts_at = rw whole at c.loop-i.invariant.1; upper_bound = omega (arith, ranged.high) }
