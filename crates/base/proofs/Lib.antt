@@ -1,4 +1,5 @@
 pub mod Booleans
 pub mod Lists
 pub mod Loops
+pub mod Ranges
 pub mod Results

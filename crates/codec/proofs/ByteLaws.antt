@@ -1,16 +1,19 @@
 -- Laws of numbers in bytes, and of bytes put into an array.
-use Prim.Native.Nat.{ℕ, zero, suc, ◌+◌, ◌*◌, ◌/◌, ◌%◌, ◌^◌, ◌≤◌, ◌<◌}
-use mathlib.Core.Path.{◌≡◌, refl, sym, ap, ◌∙◌}
+use Prim.Native.Nat.{ℕ, zero, suc, ◌+◌, ◌-◌, ◌*◌, ◌/◌, ◌%◌, ◌^◌, ◌≤◌, ◌<◌}
+use mathlib.Core.Path.{◌≡◌, refl, sym, ap, ap₂, ◌∙◌}
 use mathlib.Core.Logic.{◌≢◌}
 use mathlib.Core.Bool.{true}
-use mathlib.Core.List.{List, [], ◌∷◌, ◌++◌}
+use mathlib.Core.List.{List, [], ◌∷◌, ◌++◌, append_assoc}
 use lib.ListN.{length, get_or, take, drop, set, length-append, length-drop}
-use lib.Seq.{sets, sets-eq, take_at, take-add, length-take-le, drop-drop, drop-cons}
-use native.Mathlib.Nat.{pow-suc, pow-succ', add-zero, zero-add, suc-add, mul-add, mul_assoc, div-one, div-div-eq-div-mul}
+use lib.Seq.{sets, sets-eq, take_at, take-suc, take_all, length-take-le, drop-drop, drop-cons}
+use native.Mathlib.Nat.{pow-suc, pow-succ', add-zero, zero-add, mul-add, mul_assoc, mul_comm, div-one, div-div-eq-div-mul}
 use native.Mathlib.Omega.{arith}
 use borrow.Author.Tests.{eqb-true, ne_eqb}
+use borrow.Rule.Slice.PartMut.{put_mid}
 use mir.Syntax.{w8}
 use mir.Val.{Fits}
+use Rattle.std.specs.Int.{w64, byte_at as low_byte, byte_worth, bytes_low_first, sum_through, to_le_bytes}
+use Rattle.std.proofs.lemmas.List.{take_rest}
 use Rattle.base.specs.Results.{Result, refused, accepted, mapped}
 use Rattle.codec.specs.Bytes.{is_width, little_endian, number, byte_at, number_at, over, put_into, Puts, AllBytes}
 
@@ -73,18 +76,32 @@ unfolding number AllBytes
 number-below [] h = omega arith
 number-below (x ∷ bytes) h = omega (arith, pow-suc 256 (length bytes), number-below bytes h.1)
 
--- A number in two parts: the higher one counts 256 ^ w times for w bytes of the lower one.
-pub little-parts : (w u v : ℕ) → little_endian (w + u) v ≡ little_endian w v ++ little_endian u (v / 256 ^ w)
-unfolding little_endian
-little-parts zero u v = rw (zero-add, div-one)
-little-parts (suc w) u v =
-    let far : v / 256 / 256 ^ w ≡ v / 256 ^ suc w = rw (pow-succ' 256 w) (div-div-eq-div-mul v 256 (256 ^ w)) in
-    rw (suc-add, little-parts w u (v / 256), far)
+-- A part of an array is written.
+pub put_mid-sets : (out ys : List ℕ) (at : ℕ) → at + length ys ≤ length out → put_mid at (at + length ys - at) out ys ≡ sets out at ys
+put_mid-sets out ys at room =
+    let long : at + length ys - at ≡ length ys = omega arith in
+    let rest : drop (at + length ys) out ≡ drop (length ys) (drop at out) = sym (drop-drop (length ys) at out) in
+    rw (long, sets-eq ys out at room, rest, append_assoc)
 
-pub put-parts : (out : List ℕ) (at w u v : ℕ) → sets (sets out at (little_endian w v)) (at + w) (little_endian u (v / 256 ^ w)) ≡ sets out at (little_endian (w + u) v)
-put-parts out at w u v =
-    sets-next out at (at + w) (little_endian w v) (little_endian u (v / 256 ^ w)) (ap (λ k. at + k) (sym (little-length w v)))
-    ∙ ap (sets out at) (sym (little-parts w u v))
+-- What the library writes of a number, and what it reads of bytes.
+take-low : (i k n v : ℕ) → k ≤ n → take k (bytes_low_first i n v) ≡ little_endian k (v / 256 ^ i)
+unfolding little_endian
+take-low i zero n v h = refl
+take-low i (suc k) zero v h = absurd (omega arith)
+take-low i (suc k) (suc n) v h =
+    let far : v / 256 ^ suc i ≡ v / 256 ^ i / 256 = rw pow-suc (sym (div-div-eq-div-mul v (256 ^ i) 256)) in
+    ap₂ ◌∷◌ (low i) (take-low (suc i) k n v (omega arith) ∙ ap (little_endian k) far)
+  where
+    low : (j : ℕ) → low_byte j v ≡ v / 256 ^ j % 256
+    low zero = rw div-one
+    low (suc j) = refl
+
+pub put_mid-little : (out ys : List ℕ) (at k v : ℕ) → k ≤ 8 → at + k ≤ length out → ys ≡ take k (to_le_bytes w64 v)
+    → put_mid at (at + k - at) out ys ≡ sets out at (little_endian k v)
+put_mid-little out ys at k v narrow room e =
+    let same : ys ≡ little_endian k v = e ∙ take-low 0 k 8 v narrow ∙ ap (little_endian k) (div-one v) in
+    let long : k ≡ length (little_endian k v) = sym (little-length k v) in
+    ap₂ (λ (n : ℕ) (part : List ℕ). put_mid at (at + n - at) out part) long same ∙ put_mid-sets out (little_endian k v) at (omega arith)
 
 number_append : (xs ys : List ℕ) → number (xs ++ ys) ≡ number xs + 256 ^ length xs * number ys
 unfolding number
@@ -93,12 +110,20 @@ number_append (x ∷ xs) ys =
     rw (number_append xs ys, pow-succ' 256 (length xs))
     (omega (arith, mul-add 256 (number xs) (256 ^ length xs * number ys), mul_assoc 256 (256 ^ length xs) (number ys)))
 
-pub number-parts : (w u : ℕ) (bytes : List ℕ) (at : ℕ) → at + w ≤ length bytes
-    → number_at (w + u) bytes at ≡ number_at w bytes at + 256 ^ w * number_at u bytes (at + w)
-number-parts w u bytes at h =
-    let long : length (take w (drop at bytes)) ≡ w = length-take-le w (drop at bytes) (omega (arith, length-drop at bytes)) in
-    ap number (take-add w u (drop at bytes)) ∙ number_append (take w (drop at bytes)) (take u (drop w (drop at bytes)))
-    ∙ rw (long, drop-drop w at bytes)
+number_first : (bytes : List ℕ) (k : ℕ) → k < length bytes → sum_through (λ i. byte_worth i (get_or bytes i 0)) k ≡ number (take (suc k) bytes)
+unfolding number
+number_first bytes zero h = rw (take-suc bytes 0 0 h) (omega arith)
+number_first bytes (suc k) h =
+    let long : length (take (suc k) bytes) ≡ suc k = length-take-le (suc k) bytes (omega arith) in
+    rw (number_first bytes k (omega arith), take-suc bytes (suc k) 0 h, number_append (take (suc k) bytes) (get_or bytes (suc k) 0 ∷ []), long)
+    (omega (arith, mul_comm (256 ^ suc k) (get_or bytes (suc k) 0)))
+
+pub number-read : (bytes part : List ℕ) (at k v : ℕ) → at + suc k ≤ length bytes → part ≡ take (suc k) (take (length bytes - at) (drop at bytes))
+    → v ≡ sum_through (λ i. byte_worth i (get_or part i 0)) k → v ≡ number_at (suc k) bytes at
+number-read bytes part at k v room first e =
+    let same : part ≡ take (suc k) (drop at bytes) = first ∙ ap (take (suc k)) (take_rest bytes at) in
+    let long : length part ≡ suc k = ap length same ∙ length-take-le (suc k) (drop at bytes) (omega (arith, length-drop at bytes)) in
+    e ∙ number_first part k (omega arith) ∙ ap number (take_all (suc k) part (omega arith) ∙ same)
 
 -- A width that is not 1, 2 or 4 is 8.
 pub width-eight : (w : ℕ) → is_width w ≡ true → w ≢ 1 → w ≢ 2 → w ≢ 4 → w ≡ 8
@@ -108,16 +133,11 @@ pub number-one : (bytes : List ℕ) (at : ℕ) → at < length bytes → number_
 unfolding number
 number-one bytes at h = rw (drop-cons bytes at 0 h) (omega arith)
 
--- Numbers of 8 bits are bytes, and what is made of bytes is bytes.
+-- Numbers of 8 bits are bytes, and parts of bytes are bytes.
 pub all-bytes : (l : List ℕ) → ((i : ℕ) → Fits w8 (get_or l i 0)) → AllBytes l
 unfolding AllBytes
 all-bytes [] h = tt
 all-bytes (x ∷ l) h = ((h 0).fits, all-bytes l (λ i. h (suc i)))
-
-pub bytes-append : (xs ys : List ℕ) → AllBytes xs → AllBytes ys → AllBytes (xs ++ ys)
-unfolding AllBytes
-bytes-append [] ys h k = k
-bytes-append (x ∷ xs) ys h k = (h.0, bytes-append xs ys h.1 k)
 
 pub bytes_take : (k : ℕ) (l : List ℕ) → AllBytes l → AllBytes (take k l)
 unfolding AllBytes

@@ -33,3 +33,8 @@ module _ (a c v g : Label) (h : new_label_call a c v ≡ took g) where
       let order = new-label-maintains a c v g two.0 two.1 firsts.1 ranged.1 in
       let halves = unpacked g.m g.d small in
       rw (halves.0, halves.1, ne_eqb g.d 0 (λ z. omega (arith, range-denominator g order.ranged)), ← number)
+
+-- A number that is given stands beside a count of 0.
+pub gave-told : (s n : ℕ) → n < 4_294_967_296 → outcome_in s (packed n 0) ≡ gave n
+unfolding outcome_in
+gave-told s n small = let halves = unpacked n 0 small in rw (halves.1, halves.0)

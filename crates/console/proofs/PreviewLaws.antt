@@ -1,21 +1,19 @@
 -- How a preview at the console ends.
 use Prim.Native.Nat.{ℕ, ◌≤◌, ◌<◌}
-use mathlib.Core.Path.{◌≡◌, refl, sym, ap, ◌∙◌}
-use mathlib.Core.Bool.{true, false}
+use mathlib.Core.Path.{◌≡◌, refl, ap, ◌∙◌}
 use mathlib.Core.List.{List, ◌++◌}
 use lib.ListN.{length, length-append}
 use lib.Seq.{sets}
 use native.Mathlib.Omega.{arith}
 use borrow.Author.Tests.{lt-ltb, le-ltb}
-use Rattle.base.specs.Results.{refused, accepted, mapped, ◌and_then◌, is_refusal}
+use Rattle.base.specs.Results.{refused, accepted, mapped, ◌and_then◌}
 use Rattle.base.proofs.Results.{refuse-holds, refuse-passes}
 use Rattle.codec.specs.Bytes.{little_endian, put_into}
 use Rattle.codec.proofs.ByteLaws.{sets_over, little-length}
 use Rattle.codec.proofs.FieldLaws.{written-wide}
 use Rattle.label.specs.declared.Label.{Label}
 use Rattle.model.specs.Memory.{Row}
-use Rattle.model.specs.Preview.{Preview, preview}
-use Rattle.model.proofs.PreviewLaws.{preview-tells}
+use Rattle.model.specs.Preview.{Preview, previewing}
 use Rattle.formats.specs.Formats.{label_format}
 use Rattle.formats.specs.Written.{label_bytes, row_bytes}
 use Rattle.formats.proofs.EntryLaws.{row-wide}
@@ -34,26 +32,27 @@ module _ (bytes : List ℕ) (k : ℕ) (out : List ℕ) where
   unfolding Previews telling_preview mapped put_into
   ends-refused number e = rw e (refl, refl)
 
-  -- This is what the preview shows. It tests the range itself.
-  module _ {v : Preview} (is : v ≡ preview (stored_network bytes) k) where
-    pub preview-refused : is_refusal v.answer ≡ true → Previews bytes k out (packed v.answer 0) out
-    unfolding previewing_in ◌and_then◌
-    preview-refused r = ends-refused v.answer (rw ((preview-tells (stored_network bytes) k).0 (ap (λ (x : Preview). is_refusal x.answer) (sym is) ∙ r), is))
+  -- The preview is turned down. It tests the range itself.
+  pub preview-refused : (number : ℕ) → previewing (stored_network bytes) k ≡ refused number → Previews bytes k out (packed number 0) out
+  unfolding previewing_in ◌and_then◌
+  preview-refused number e = ends-refused number (rw e)
 
-    shown : is_refusal v.answer ≡ false → previewing_in bytes k (length out) ≡ room_for (length out) v
+  -- This is what it shows.
+  module _ {v : Preview} (is : previewing (stored_network bytes) k ≡ accepted v) where
+    shown : previewing_in bytes k (length out) ≡ room_for (length out) v
     unfolding previewing_in ◌and_then◌
-    shown r = rw ((preview-tells (stored_network bytes) k).1 (ap (λ (x : Preview). is_refusal x.answer) (sym is) ∙ r), is)
+    shown = rw is
 
     wide : length (bytes_of v) ≡ preview_wide
     wide = preview-wide v.label v.row v.mask
 
-    pub preview-12 : is_refusal v.answer ≡ false → length out < preview_wide → Previews bytes k out 12 out
+    pub preview-12 : length out < preview_wide → Previews bytes k out 12 out
     unfolding room_for shown_in mapped
-    preview-12 r l = ends-refused 12 (shown r ∙ ap (mapped (λ bytes. v)) (refuse-holds 12 _ (accepted (bytes_of v)) (lt-ltb (length out) (length (bytes_of v)) (omega (arith, l, wide)))))
+    preview-12 l = ends-refused 12 (shown ∙ ap (mapped (λ bytes. v)) (refuse-holds 12 _ (accepted (bytes_of v)) (lt-ltb (length out) (length (bytes_of v)) (omega (arith, l, wide)))))
 
-    pub preview-shown : is_refusal v.answer ≡ false → preview_wide ≤ length out → (r : ℕ) (out' : List ℕ) → r ≡ packed v.answer v.sent → out' ≡ sets out 0 (bytes_of v)
+    pub preview-shown : preview_wide ≤ length out → (r : ℕ) (out' : List ℕ) → r ≡ packed v.answer v.sent → out' ≡ sets out 0 (bytes_of v)
         → Previews bytes k out r out'
     unfolding Previews telling_preview mapped put_into room_for shown_in
-    preview-shown a l r out' e f =
+    preview-shown l r out' e f =
         let room : length (bytes_of v) ≤ length out = omega (arith, l, wide) in
-        rw (shown a ∙ ap (mapped (λ bytes. v)) (refuse-passes 12 _ (accepted (bytes_of v)) (le-ltb (length out) (length (bytes_of v)) room))) (e, f ∙ sets_over out (bytes_of v) room)
+        rw (shown ∙ ap (mapped (λ bytes. v)) (refuse-passes 12 _ (accepted (bytes_of v)) (le-ltb (length out) (length (bytes_of v)) room))) (e, f ∙ sets_over out (bytes_of v) room)

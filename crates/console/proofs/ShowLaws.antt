@@ -58,21 +58,28 @@ module _ (bytes : List ℕ) (show : Network → Result (List ℕ)) (out : List �
   abbrev shown-in : Result (List ℕ)
   shown-in = showing bytes show and_then shown_in (length out)
 
-  pub puts-1 : out_of_range bytes ≡ true → Puts telling shown-in out 1 out
-  unfolding telling ◌and_then◌
-  puts-1 h = puts-refused telling _ out 1 1 (rw (showing-1 bytes show h)) refl
+  abbrev Shown : Result ℕ → List ℕ → Type 0
+  Shown told out' = Puts (λ wide. wide) shown-in out told out'
 
-  pub puts-other : (number : ℕ) → out_of_range bytes ≡ false → show (stored_network bytes) ≡ refused number → Puts telling shown-in out (packed number 0) out
-  unfolding telling ◌and_then◌
-  puts-other number h e = puts-refused telling _ out (packed number 0) number (rw (showing-net bytes show h, e)) refl
+  pub puts-1 : out_of_range bytes ≡ true → Shown (refused 1) out
+  unfolding ◌and_then◌
+  puts-1 h = puts-refused (λ wide. wide) _ out _ 1 (rw (showing-1 bytes show h)) refl
+
+  pub puts-other : (number : ℕ) → out_of_range bytes ≡ false → show (stored_network bytes) ≡ refused number → Shown (refused number) out
+  unfolding ◌and_then◌
+  puts-other number h e = puts-refused (λ wide. wide) _ out _ number (rw (showing-net bytes show h, e)) refl
 
   module _ (shown : List ℕ) (h : out_of_range bytes ≡ false) (e : show (stored_network bytes) ≡ accepted shown) where
-    pub puts-12 : length out < length shown → Puts telling shown-in out 12 out
-    unfolding telling ◌and_then◌ shown_in
-    puts-12 l = puts-refused telling _ out 12 12 (rw (showing-net bytes show h, e) (refuse-holds 12 _ _ (lt-ltb (length out) (length shown) l))) refl
+    pub puts-12 : length out < length shown → Shown (refused 12) out
+    unfolding ◌and_then◌ shown_in
+    puts-12 l = puts-refused (λ wide. wide) _ out _ 12 (rw (showing-net bytes show h, e) (refuse-holds 12 _ _ (lt-ltb (length out) (length shown) l))) refl
 
-    pub puts-shown : (r : ℕ) (out' : List ℕ) → length shown ≤ length out → r ≡ packed 0 (length shown) → out' ≡ sets out 0 shown
-        → Puts telling shown-in out r out'
-    unfolding telling ◌and_then◌ shown_in
-    puts-shown r out' l q p =
-        puts-accepted telling _ out r shown out' (rw (showing-net bytes show h, e) (refuse-passes 12 _ _ (le-ltb (length out) (length shown) l))) q l p
+    pub puts-shown : (wide : ℕ) (out' : List ℕ) → length shown ≤ length out → wide ≡ length shown → out' ≡ sets out 0 shown → Shown (accepted wide) out'
+    unfolding ◌and_then◌ shown_in
+    puts-shown wide out' l q p =
+        puts-accepted (λ wide. wide) _ out _ shown out' (rw (showing-net bytes show h, e) (refuse-passes 12 _ _ (le-ltb (length out) (length shown) l))) (ap accepted q) l p
+
+-- What was put, told in one number.
+pub told-put : (z : Result (List ℕ)) (out out' : List ℕ) (told : Result ℕ) {r : ℕ} → Puts (λ wide. wide) z out told out' → r ≡ telling told → Puts telling z out r out'
+unfolding Puts
+told-put z out out' told h e = (e ∙ ap telling h.0, h.1)

@@ -1,31 +1,39 @@
--- The parts of a network that a console shows in bytes, by their numbers: which number turns one down, how wide it is, and what stands in the
--- memory's bytes for it.
-use Rattle.std.specs.Prelude.{ℕ, ◌+◌, ◌*◌, ◌||◌, List, leb, eqb, if◌then◌else◌}
+-- The parts of a network that a console shows in bytes: what turns one down, how wide it is, and what stands in the memory's bytes for it.
+use Rattle.std.specs.Prelude.{ℕ, ◌+◌, ◌*◌, Bool, ◌||◌, List, leb, eqb}
 use Rattle.model.specs.Memory.{place}
 use Rattle.formats.specs.Formats.{label_wide, row_wide, record_wide, station_wide, packet_wide}
 use Rattle.formats.specs.Stored.{stored_label, stored_row, stored_record, stored_station, stored_packet}
 use Rattle.formats.specs.Written.{label_bytes, row_bytes, record_bytes, station_bytes, packet_bytes}
 use Rattle.layout.specs.Places.{stations_at, labels_at, rows_at, records_at, packets_at}
+use Rattle.console.specs.declared.showing.Part.{Part}
+use Rattle.console.specs.declared.showing.Part.TheVariants.{Label, Row, Record, Station, Packet}
 
-unfoldable pub part_refusal : (part n count i t : ℕ) → ℕ
-part_refusal part n count i t =
-    if eqb part 1 || eqb part 2 then (if leb n i || leb n t then 2 else 0)
-    else if eqb part 3 then (if leb n i || leb n t || eqb i t then 2 else 0)
-    else if eqb part 4 then (if leb n i then 2 else 0)
-    else (if leb count i then 6 else 0)
+-- Whether it is turned down, of n stations and so many packets.
+abbrev pub part_refused : Part → (n count : ℕ) → Bool
+part_refused (Label i t) n count = leb n i || leb n t
+part_refused (Row i t) n count = leb n i || leb n t
+part_refused (Record i source) n count = leb n i || leb n source || eqb i source
+part_refused (Station i) n count = leb n i
+part_refused (Packet k) n count = leb count k
 
-unfoldable pub part_wide : ℕ → ℕ
-part_wide part =
-    if eqb part 1 then label_wide
-    else if eqb part 2 then row_wide
-    else if eqb part 3 then record_wide
-    else if eqb part 4 then station_wide
-    else packet_wide
+-- The number that it is turned down with.
+abbrev pub part_number : Part → ℕ
+part_number (Label i t) = 2
+part_number (Row i t) = 2
+part_number (Record i source) = 2
+part_number (Station i) = 2
+part_number (Packet k) = 6
 
-unfoldable pub part_in : (part : ℕ) → List ℕ → (i t : ℕ) → List ℕ
-part_in part bytes i t =
-    if eqb part 1 then label_bytes (stored_label bytes (labels_at + label_wide * place i t))
-    else if eqb part 2 then row_bytes (stored_row bytes (rows_at + row_wide * place i t))
-    else if eqb part 3 then record_bytes (stored_record bytes (records_at + record_wide * place i t))
-    else if eqb part 4 then station_bytes (stored_station bytes (stations_at + station_wide * i))
-    else packet_bytes (stored_packet bytes (packets_at + packet_wide * i))
+abbrev pub part_wide : Part → ℕ
+part_wide (Label i t) = label_wide
+part_wide (Row i t) = row_wide
+part_wide (Record i source) = record_wide
+part_wide (Station i) = station_wide
+part_wide (Packet k) = packet_wide
+
+abbrev pub part_in : Part → List ℕ → List ℕ
+part_in (Label i t) bytes = label_bytes (stored_label bytes (labels_at + label_wide * place i t))
+part_in (Row i t) bytes = row_bytes (stored_row bytes (rows_at + row_wide * place i t))
+part_in (Record i source) bytes = record_bytes (stored_record bytes (records_at + record_wide * place i source))
+part_in (Station i) bytes = station_bytes (stored_station bytes (stations_at + station_wide * i))
+part_in (Packet k) bytes = packet_bytes (stored_packet bytes (packets_at + packet_wide * k))

@@ -1,6 +1,6 @@
 -- What a console shows of the network that stands in the bytes. It is turned down with 1 for memory out of range, 2 for a station not below n,
 -- 6 for a packet that is not there, and 12 for a lent array that is too short.
-use Rattle.std.specs.Prelude.{ℕ, Bool, not, ◌||◌, List, length, ltb, eqb, if◌then◌else◌}
+use Rattle.std.specs.Prelude.{ℕ, Bool, not, ◌||◌, List, length, ltb}
 use mir.Val.{bool_byte}
 use Rattle.base.specs.Results.{Result, accepted, refuse◌when◌otherwise◌}
 use Rattle.codec.specs.Bytes.{byte_at}
@@ -9,6 +9,8 @@ use Rattle.model.specs.Calls.{not_station, not_pair, not_packet}
 use Rattle.formats.specs.Formats.{station_of}
 use Rattle.formats.specs.Written.{label_bytes, row_bytes, record_bytes, station_bytes, packet_bytes}
 use Rattle.layout.specs.Meaning.{stored_network}
+use Rattle.console.specs.declared.showing.Part.{Part}
+use Rattle.console.specs.declared.showing.Part.TheVariants.{Label, Row, Record, Station, Packet}
 
 unfoldable pub out_of_range : List ℕ → Bool
 out_of_range bytes = not (memory_in_range (stored_network bytes))
@@ -69,11 +71,10 @@ show_packet k net =
     refuse 6 when not_packet net k otherwise
     accepted (packet_bytes (packet_at net k))
 
--- A part of the network, by its number.
-abbrev pub show_part : (part i t : ℕ) → Network → Result (List ℕ)
-show_part part i t =
-    if eqb part 1 then show_label i t
-    else if eqb part 2 then show_row i t
-    else if eqb part 3 then show_record i t
-    else if eqb part 4 then show_station i
-    else show_packet i
+-- A part of the network.
+abbrev pub show_part : Part → Network → Result (List ℕ)
+show_part (Label i t) = show_label i t
+show_part (Row i t) = show_row i t
+show_part (Record i source) = show_record i source
+show_part (Station i) = show_station i
+show_part (Packet k) = show_packet k

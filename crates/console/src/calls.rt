@@ -1,4 +1,6 @@
 // The calls on the network that stands in the bytes.
+#![tactic(auto, unfolding(model::specs::Events::call_of, model::specs::Events::not_event, model::specs::Events::uses_one))]
+
 ghost use Rattle.std.specs.Prelude.{◌≡◌, ◌≢◌, ◌<◌, false};
 ghost use Rattle.model.specs.Calls.{Open, Up, Down, Solicit, GiveUp, Expire, Deliver, Lose, Duplicate, traced, trace};
 ghost use Rattle.model.specs.Events.{not_event, call_of};
@@ -8,11 +10,12 @@ ghost use Rattle.console.specs.Packed.{packed, answer_of, count_of};
 ghost use Rattle.console.specs.Console.{calling, Ends};
 ghost use Rattle.console.specs.Made.{MadeBytes};
 
-use crate::{finish, packed};
+use crate::{finish, packed, turned_down};
 use layout::memory::load;
 use layout::places::LENGTH;
 use network::opening::fresh;
 use sandbox::calls;
+use validation::Refusal;
 
 // Open: fresh memory of n stations, with an air limit. The bytes are not read.
 #[unsafe(no_mangle)]
@@ -20,12 +23,12 @@ pub extern "C" fn srp_open(memory: &mut [u8], n: usize, start: u64, limit: usize
     ensures { Ends memory.old (calling (Open n start limit) memory.old) result memory.new }
 {
     if memory.len() < LENGTH {
-        return 1;
+        return turned_down(Refusal::OutOfRange);
     }
     finish(memory, calls::open(fresh(0, 0, 0), n, start, limit))
 }
 
-// The call of a kind, 1 to 8. An operand that it does not use is 0.
+// The call of a kind, 1 to 8, as events number them: one proof serves all. An operand that it does not use is 0.
 fn call(bytes: &mut [u8], kind: u8, a: usize, b: usize) -> u64
     requires { (kind ≢ 9) × (not_event kind b ≡ false) }
     ensures { Ends bytes.old (calling (call_of kind a b) bytes.old) result bytes.new }
@@ -105,7 +108,5 @@ pub extern "C" fn srp_trace(memory: &[u8], a: usize, t: usize) -> u64
         → WalksEnd (stored_network memory.now) a t (traced (answer_of result) (count_of result)) }
 {
     let told = calls::trace(load(memory), a, t);
-    let answer = told.answer;
-    let hops = told.hops;
-    packed(answer, hops as u32)
+    packed(told.answer, u32::from(told.hops))
 }

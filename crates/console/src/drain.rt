@@ -7,9 +7,10 @@ ghost use Rattle.layout.specs.Meaning.{stored_network};
 ghost use Rattle.console.specs.Draining.{DrainsBytes};
 ghost use Rattle.console.specs.Made.{MadeBytes};
 
-use crate::packed_two;
+use crate::{packed_two, turned_down};
 use layout::memory::{load, write};
 use sandbox::calls;
+use validation::Refusal;
 
 // Packet 0 is delivered again and again, and lost where Deliver gives 13 or 7, until no packet is in the air. In memory that the console's calls
 // made no walk goes in a circle afterwards.
@@ -20,12 +21,9 @@ pub extern "C" fn srp_drain(memory: &mut [u8]) -> u64
         → WalksEnd (stored_network memory.new) a t (trace (stored_network memory.new) a t) }
 {
     let drained = calls::drain(load(memory));
-    let deliveries = drained.deliveries;
-    let losses = drained.losses;
     if drained.answer != 0 {
-        return 1;
+        return turned_down(Refusal::OutOfRange);
     }
-    let next = drained.memory;
-    write(memory, next);
-    packed_two(0, deliveries, losses)
+    write(memory, drained.memory);
+    packed_two(0, drained.deliveries, drained.losses)
 }

@@ -4,7 +4,7 @@ ghost use Rattle.label.specs.Label.{label, new_label_call};
 ghost use Rattle.console.specs.Packed.{outcome_in};
 
 use crate::packed;
-use label::{NewLabel, label_of, new_label};
+use label::{label_of, new_label};
 
 // New label from the own, the cached and the advertised label.
 #[unsafe(no_mangle)]
@@ -25,10 +25,7 @@ pub extern "C" fn srp_new_label(
     let cached = label_of(cached_s, cached_m, cached_d);
     let advertised = label_of(advertised_s, advertised_m, advertised_d);
     match new_label(own, cached, advertised) {
-        NewLabel::Took(l) => packed(l.m, l.d),
-        NewLabel::OutOfRange => 1,
-        NewLabel::OwnNotAbove => 112,
-        NewLabel::CachedNotAbove => 113,
-        NewLabel::Overflow => 114,
+        Ok(l) => packed(l.m, l.d),
+        Err(why) => packed(why.number(), 0),
     }
 }

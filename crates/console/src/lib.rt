@@ -5,6 +5,7 @@
 ghost use Rattle.std.specs.Prelude.{◌≡◌, false, ◌≤◌, ◌<◌, length};
 ghost use Rattle.base.specs.Results.{is_refusal};
 ghost use Rattle.telling.specs.Tallies.{tally_in};
+ghost use Rattle.validation.specs.Refusal.{number};
 ghost use Rattle.layout.specs.Places.{layout_length};
 ghost use Rattle.console.specs.Packed.{packed, packed_two, packed_tally};
 ghost use Rattle.console.specs.Showing.{out_of_range};
@@ -14,6 +15,7 @@ use layout::memory::{load, write};
 use network::range::in_range;
 use steps::Done;
 use telling::tally::Tally;
+use validation::Refusal;
 
 pub mod calls;
 pub mod drain;
@@ -28,7 +30,14 @@ pub mod showing;
 fn packed(answer: u32, count: u32) -> u64
     ensures { result ≡ packed answer count }
 {
-    answer as u64 + 4294967296 * (count as u64)
+    u64::from(answer) + 4294967296 * u64::from(count)
+}
+
+// The number of a refusal, and no count.
+fn turned_down(refusal: Refusal) -> u64
+    ensures { result ≡ packed (number refusal) 0 }
+{
+    packed(refusal.number(), 0)
 }
 
 // An answer and two counts in one number.
@@ -36,7 +45,7 @@ fn packed_two(answer: u32, first: u32, second: u32) -> u64
     requires { (answer < 65_536) × (first < 16_777_216) × (second < 16_777_216) }
     ensures { result ≡ packed_two answer first second }
 {
-    answer as u64 + 65536 * (first as u64) + 1099511627776 * (second as u64)
+    u64::from(answer) + 65536 * u64::from(first) + 1099511627776 * u64::from(second)
 }
 
 // An answer, the length of a text and a tally in one number.
@@ -44,23 +53,27 @@ fn packed_tally(answer: u32, length: u32, tally: Tally) -> u64
     requires { (answer < 65_536) × (length < 16_777_216) × (tally.calls < 65_536) }
     ensures { result ≡ packed_tally answer length (tally_in tally) }
 {
-    let calls = tally.calls;
-    let highest = tally.highest as u32;
-    packed_two(answer, length, calls + 65536 * highest)
+    packed_two(
+        answer,
+        length,
+        tally.calls + 65536 * u32::from(tally.highest),
+    )
 }
 
 // Whether the memory that stands in the bytes is out of range.
+#[tactic(auto, unfolding(crate::specs::Showing::out_of_range))]
 fn out_of_range(bytes: &[u8]) -> bool
     ensures { result ≡ out_of_range bytes.now }
 {
-    !in_range(load(bytes))
+    !in_range(&load(bytes))
 }
 
 // Whether an answer is a refusal.
+#[tactic(auto, unfolding(base::specs::Results::is_refusal))]
 fn refused(answer: u32) -> bool
     ensures { result ≡ is_refusal answer }
 {
-    (0 < answer) & (answer < 100)
+    (1..100).contains(&answer)
 }
 
 // What a call gave, written into the bytes where it was accepted.
@@ -68,12 +81,8 @@ fn finish(bytes: &mut [u8], done: Done) -> u64
     requires { is_refusal done.answer ≡ false → layout_length ≤ length bytes.old }
     ensures { Finished done bytes.old result bytes.new }
 {
-    let answer = done.answer;
-    let sent = done.sent;
-    if refused(answer) {
-        return packed(answer, sent as u32);
+    if !refused(done.answer) {
+        write(bytes, done.memory);
     }
-    let memory = done.memory;
-    write(bytes, memory);
-    packed(answer, sent as u32)
+    packed(done.answer, u32::from(done.sent))
 }

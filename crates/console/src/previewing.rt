@@ -4,7 +4,7 @@ ghost use Rattle.std.proofs.lemmas.List.Edits.{sets};
 ghost use Rattle.rows.specs.View.{row_of};
 ghost use Rattle.console.specs.Previewing.{preview_bytes, preview_wide, Previews};
 
-use crate::{packed, refused};
+use crate::{packed, turned_down};
 use codec::put_number;
 use formats::entries::{put_label, put_row};
 use formats::{LABEL_BYTES, ROW_BYTES};
@@ -12,6 +12,7 @@ use label::Label;
 use layout::memory::load;
 use rows::Row;
 use sandbox::calls;
+use validation::Refusal;
 
 // What a preview shows, in bytes.
 const PREVIEW_BYTES: usize = LABEL_BYTES + ROW_BYTES + 2;
@@ -23,7 +24,7 @@ fn put_preview(out: &mut [u8], label: Label, row: Row, mask: u16)
 {
     put_label(out, 0, label);
     put_row(out, LABEL_BYTES, row);
-    put_number(out, LABEL_BYTES + ROW_BYTES, 2, mask as u64);
+    put_number(out, LABEL_BYTES + ROW_BYTES, 2, u64::from(mask));
 }
 
 // What Deliver of packet k would give. The memory is only read.
@@ -31,18 +32,14 @@ fn put_preview(out: &mut [u8], label: Label, row: Row, mask: u16)
 pub extern "C" fn srp_preview(memory: &[u8], k: usize, out: &mut [u8]) -> u64
     ensures { Previews memory.now k out.old result out.new }
 {
-    let seen = calls::preview(load(memory), k);
-    let answer = seen.answer;
-    let sent = seen.sent as u32;
-    if refused(answer) {
-        return packed(answer, 0);
+    match calls::preview(load(memory), k) {
+        Err(why) => turned_down(why),
+        Ok(seen) => {
+            if out.len() < PREVIEW_BYTES {
+                return turned_down(Refusal::NoRoom);
+            }
+            put_preview(out, seen.label, seen.row, seen.mask);
+            packed(seen.answer, u32::from(seen.sent))
+        }
     }
-    if out.len() < PREVIEW_BYTES {
-        return 12;
-    }
-    let label = seen.label;
-    let row = seen.row;
-    let mask = seen.mask;
-    put_preview(out, label, row, mask);
-    packed(answer, sent)
 }

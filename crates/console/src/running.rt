@@ -9,7 +9,7 @@ ghost use Rattle.console.specs.Packed.{short_answer_of, second_of};
 ghost use Rattle.console.specs.Made.{MadeBytes};
 ghost use Rattle.console.specs.Running.{RunsBytes, RehearsesBytes};
 
-use crate::{finish, packed_tally};
+use crate::{finish, packed_tally, turned_down};
 use layout::memory::load;
 use printout::rehearsal;
 use sandbox::events;
@@ -31,16 +31,13 @@ pub extern "C" fn srp_run(
         → WalksEnd (stored_network memory.new) a t (trace (stored_network memory.new) a t) }
 {
     let ran = events::run(load(memory), kinds, operands, lines);
-    let answer = ran.answer;
-    let tally = ran.tally;
-    let next = ran.memory;
     let done = Done {
-        memory: next,
-        answer: answer,
+        memory: ran.memory,
+        answer: ran.answer,
         sent: 0,
     };
     finish(memory, done);
-    packed_tally(answer, 0, tally)
+    packed_tally(ran.answer, 0, ran.tally)
 }
 
 // A script rehearsed under an air limit: its text goes to the start of the lent array.
@@ -50,9 +47,8 @@ pub extern "C" fn srp_rehearse(script: &[u8], limit: usize, out: &mut [u8]) -> u
     ensures loop_free { RoutesLoopFree script.now limit }
     ensures tally { TallyFits script.now limit }
 {
-    let done = rehearsal::rehearse_under(script, limit, out);
-    let answer = done.answer;
-    let length = done.length;
-    let tally = done.tally;
-    packed_tally(answer, length as u32, tally)
+    match rehearsal::rehearse_under(script, limit, out) {
+        Ok(done) => packed_tally(0, done.length as u32, done.tally),
+        Err(refusal) => turned_down(refusal),
+    }
 }

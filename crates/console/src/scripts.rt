@@ -6,7 +6,7 @@ ghost use Rattle.script.specs.Script.{script, reading, writing};
 ghost use Rattle.script.specs.ScriptContracts.{start_of, Reads};
 ghost use Rattle.console.specs.Packed.{telling, telling_script};
 
-use crate::packed;
+use crate::{packed, turned_down};
 
 // Reads a script: its kinds and operands go to the start of the two lent arrays.
 #[unsafe(no_mangle)]
@@ -14,11 +14,10 @@ pub extern "C" fn srp_read_script(bytes: &[u8], kinds: &mut [u8], operands: &mut
     ensures { Reads telling_script (reading bytes.now (length kinds.old) (length operands.old))
         kinds.old operands.old result kinds.new operands.new }
 {
-    let found = script::read(bytes, kinds, operands);
-    let answer = found.answer;
-    let events = found.events;
-    let n = found.n;
-    packed(answer, events as u32 + 65536 * (n as u32))
+    match script::read(bytes, kinds, operands) {
+        Ok(found) => packed(0, found.events as u32 + 65536 * u32::from(found.n)),
+        Err(refusal) => turned_down(refusal),
+    }
 }
 
 // The start of a script that reads, and 0 for every other.
@@ -40,8 +39,8 @@ pub extern "C" fn srp_write_script(
 ) -> u64
     ensures { Puts telling (writing (script n start kinds.now operands.now) (length out.old)) out.old result out.new }
 {
-    let written = script::write(n, start, kinds, operands, out);
-    let answer = written.answer;
-    let length = written.bytes;
-    packed(answer, length as u32)
+    match script::write(n, start, kinds, operands, out) {
+        Ok(bytes) => packed(0, bytes as u32),
+        Err(refusal) => turned_down(refusal),
+    }
 }

@@ -9,15 +9,17 @@ use Rattle.station.specs.declared.Holding.{Holding}
 use Rattle.station.specs.declared.Reaction.{Reaction}
 use Rattle.station.specs.Reacting.{Holds, reacts}
 use Rattle.station.specs.Replying.{LastRequest}
+use Rattle.decisions.specs.declared.changing.Class.{Class}
+use Rattle.decisions.specs.declared.changing.Class.TheVariants.{Setting, Tracing, Cutting, Changing}
 use Rattle.decisions.specs.declared.changing.Change.{Change}
 
--- Where an event is made: 0 Up, Give up, Expire; 1 Trace; 2 Down and an error delivered; 3 every other.
-unfoldable pub class_of : (kind carried : ℕ) → ℕ
+-- What an event works on: Up, Give up, Expire; Trace; Down and an error delivered; every other.
+unfoldable pub class_of : (kind carried : ℕ) → Class
 class_of kind carried =
-    if eqb kind 1 || eqb kind 4 || eqb kind 5 then 0
-    else if eqb kind 9 then 1
-    else if eqb kind 2 || eqb kind 6 && eqb carried 3 then 2
-    else 3
+    if eqb kind 1 || eqb kind 4 || eqb kind 5 then Setting
+    else if eqb kind 9 then Tracing
+    else if eqb kind 2 || eqb kind 6 && eqb carried 3 then Cutting
+    else Changing
 
 -- Solicit by a for t, where a holds h and its last request has this number.
 pub record Solicits (h : Holding) (last a t : ℕ) (r : Change) : Type 0 where

@@ -1,4 +1,5 @@
 // What a call changes at one station: Up, Give up and Expire; Solicit, Lose, Duplicate, and the delivery of a request or a reply.
+// Kinds are numbers here, as C and scripts give them and as the contracts take any (`event_of`); `class_of` makes the one choice that all share.
 ghost use Rattle.std.specs.Prelude.{◌≡◌, ◌≢◌, true, false, ◌+◌, ◌%◌, ◌<◌, eqb, if◌then◌else◌};
 ghost use Rattle.base.specs.Numbers.{max_u32, max_u64};
 ghost use Rattle.model.specs.Calls.{count_on};
@@ -11,21 +12,28 @@ use network::{Packet, RequestNumber};
 use station::Holding;
 use station::receiving::react;
 
-// What happens in place, by the kind of an event and of the packet that it names: 0 for Up, Give up and Expire, 1 for Trace, 2 where
-// rows are cut (Down, and an error delivered), 3 for every other.
-pub fn class_of(kind: u8, carried: u8) -> u8
+// What an event works on: what a station has of itself, its links and its rows (Up, Give up and Expire), rows alone (Trace), rows that are cut (Down, and
+// an error delivered), or what a station holds (every other).
+#[derive(Clone, Copy, Debug, PartialEq, Eq)]
+pub enum Class {
+    Setting,
+    Tracing,
+    Cutting,
+    Changing,
+}
+
+// The class of an event, by its kind and that of the packet that it names.
+#[tactic(auto, unfolding(crate::specs::Changing::class_of))]
+pub fn class_of(kind: u8, carried: u8) -> Class
     ensures { result ≡ class_of kind carried }
 {
-    if (kind == 1) | (kind == 4) | (kind == 5) {
-        return 0;
+    match kind {
+        1 | 4 | 5 => Class::Setting,
+        9 => Class::Tracing,
+        2 => Class::Cutting,
+        6 if carried == 3 => Class::Cutting,
+        _ => Class::Changing,
     }
-    if kind == 9 {
-        return 1;
-    }
-    if (kind == 2) | (kind == 6) & (carried == 3) {
-        return 2;
-    }
-    3
 }
 
 // A station, what it holds for a destination, and its record for a source.
@@ -63,14 +71,11 @@ pub fn spot_of(kind: u8, a: u8, b: u8, p: Packet) -> Spot
 pub fn expired(kind: u8, count: u8) -> u8
     ensures { result ≡ (if eqb kind 5 then 0 else count) }
 {
-    if kind == 5 {
-        return 0;
-    }
-    count
+    if kind == 5 { 0 } else { count }
 }
 
 // What a call does at a station: what it holds then, its last request, whether the packet that the call names goes, its answer, and the
-// packet that it sends, with its scope.
+// packet that it sends, with its scope. Answer and scope are numbers, as in `Reaction`.
 #[derive(Clone, Copy)]
 pub struct Change {
     pub holding: Holding,
@@ -111,11 +116,11 @@ fn reacting(p: Packet, held: Holding, last: RequestNumber, sought: u8, links: [b
     let holding = reaction.holding;
     let packet = reaction.packet;
     Change {
-        holding: holding,
-        packet: packet,
+        holding,
+        packet,
         number: last,
         answer: reaction.answer,
-        sought: sought,
+        sought,
         scope: reaction.scope,
         drops: true,
     }
@@ -132,7 +137,7 @@ fn carrying(kind: u8, p: Packet, held: Holding, last: RequestNumber, sought: u8)
             packet: p,
             number: last,
             answer: 0,
-            sought: sought,
+            sought,
             scope: 0,
             drops: true,
         };
@@ -142,7 +147,7 @@ fn carrying(kind: u8, p: Packet, held: Holding, last: RequestNumber, sought: u8)
         packet: p,
         number: last,
         answer: 0,
-        sought: sought,
+        sought,
         scope: 1,
         drops: false,
     }
@@ -165,26 +170,22 @@ pub fn change_of(
     ensures loses { kind ≡ 7 → Loses held last sought result }
     ensures doubles { kind ≡ 8 → Doubles p held last sought result }
 {
-    if kind == 3 {
-        return soliciting(held, last, a, t);
+    match kind {
+        3 => soliciting(held, last, a, t),
+        6 => reacting(p, held, last, sought, links),
+        _ => carrying(kind, p, held, last, sought),
     }
-    if kind == 6 {
-        return reacting(p, held, last, sought, links);
-    }
-    carrying(kind, p, held, last, sought)
 }
 
 // How many of the packets sent are told: a duplicate is nobody's sending.
 pub fn told(kind: u8, sent: u8) -> u8
     ensures { result ≡ (if eqb kind 8 then 0 else sent) }
 {
-    if kind == 8 {
-        return 0;
-    }
-    sent
+    if kind == 8 { 0 } else { sent }
 }
 
 // The last serial number of a station that sends so many packets: one number for all of them, none where there is none.
+#[tactic(auto, unfolding(model::specs::Calls::count_on))]
 pub fn count_on(serial: u64, sent: u8) -> u64
     requires { 0 < sent → serial < max_u64 }
     ensures { result ≡ count_on serial sent }

@@ -1,4 +1,5 @@
-// Rows that lose a station: at Down a and b each lose the other, at an error its receiver loses its sender for the masked destinations.
+// Rows that lose a station: at Down a and b each lose the other, at an error its receiver loses its sender for the masked destinations. Rows
+// name each station once, and t is below 16: both stand in each contract, as in `rows` and `masks`.
 ghost use Rattle.std.specs.Prelude.{◌≡◌, ◌&&◌, ◌||◌, ◌+◌, ◌^◌, ◌<◌, eqb, if◌then◌else◌};
 ghost use Rattle.base.specs.Lists.{some_in};
 ghost use Rattle.model.specs.Memory.{without};
@@ -6,8 +7,8 @@ ghost use Rattle.model.specs.Calls.{bit, empties, error_outcome};
 ghost use Rattle.rows.specs.View.{row_of, NamesOnce};
 ghost use Rattle.decisions.specs.Cutting.{leaves_by, DownCuts, ErrorCuts};
 
+use link_rows::masks::{bit, marked};
 use network::Packet;
-use network::masks::{bit, marked};
 use rows::{Loss, Row, loss_of, without_station};
 
 // Two stations, and the masks of the destinations for which the first loses the second, and the second the first: whatever the entry's
@@ -42,8 +43,8 @@ pub fn cut_of(kind: u8, a: u8, b: u8, p: Packet) -> Cut
         };
     }
     Cut {
-        serial: serial,
-        mask: mask,
+        serial,
+        mask,
         others: 0,
         first: i,
         second: j,
@@ -60,11 +61,12 @@ fn masked_loss(row: Row, cut: Cut, j: u8, mask: u16, t: u8) -> Loss
     let all = cut.all;
     let serial = cut.serial;
     if bit(mask, t) {
-        return loss_of(row, j, all, serial);
-    }
-    Loss {
-        removed: false,
-        emptied: false,
+        loss_of(row, j, all, serial)
+    } else {
+        Loss {
+            removed: false,
+            emptied: false,
+        }
     }
 }
 
@@ -76,9 +78,10 @@ pub fn cut_row(row: Row, cut: Cut, j: u8, mask: u16, t: u8) -> Row
     let all = cut.all;
     let serial = cut.serial;
     if bit(mask, t) {
-        return without_station(row, j, all, serial);
+        without_station(row, j, all, serial)
+    } else {
+        row
     }
-    row
 }
 
 // The masks of the rows emptied so far, of the first station and of the second, and whether any row lost an entry.
@@ -117,13 +120,11 @@ pub fn with_rows(losses: Losses, cut: Cut, t: u8, row: Row, other: Row) -> Losse
 pub fn turns_of(n: u8, removed: bool) -> u8
     ensures { result ≡ (if removed then n else 0) }
 {
-    if removed {
-        return n;
-    }
-    0
+    if removed { n } else { 0 }
 }
 
-// Down has no outcome number; of an error 121 nothing removed, 122 no row emptied, 123 some emptied.
+// Down has no outcome number; of an error 121 nothing removed, 122 no row emptied, 123 some emptied. A number, as `error_outcome` and `Done` have it.
+#[tactic(auto, unfolding(model::specs::Calls::error_outcome))]
 pub fn cut_answer(kind: u8, removed: bool, emptied: u16) -> u32
     ensures { result ≡ (if eqb kind 2 then 0 else error_outcome removed emptied) }
 {

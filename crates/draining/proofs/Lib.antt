@@ -3,4 +3,3 @@ pub mod Potential
 pub mod Spending
 pub mod Turning
 pub mod Ending
-pub mod Following

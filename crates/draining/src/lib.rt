@@ -5,10 +5,15 @@ ghost use Rattle.std.specs.Prelude.{◌≡◌, ltb};
 ghost use Rattle.draining.specs.Draining.{loses_packet, AllDrain};
 ghost use Rattle.draining.specs.Following.{Follows};
 
+// The kinds of event that a turn is.
+const DELIVER: u8 = 6;
+
+const LOSE: u8 = 7;
+
 // The packet that is delivered or lost.
 const FIRST: u8 = 0;
 
-// An event: its kind and its operands; and how many packets it loses because Deliver was turned down.
+// An event: its kind and its operands, the numbers that a script has (`Follows`); and how many packets it loses because Deliver was turned down.
 #[derive(Clone, Copy)]
 pub struct Event {
     pub kind: u8,
@@ -21,26 +26,19 @@ pub struct Event {
 pub fn loses(answer: u32) -> bool
     ensures { (result ≡ loses_packet answer) × AllDrain }
 {
-    (answer == 7) | (answer == 13)
+    matches!(answer, 7 | 13)
 }
 
 // What follows on this answer: packet 0 is lost, or delivered.
 pub fn turn_after(answer: u32) -> Event
     ensures { Follows answer result }
 {
-    if loses(answer) {
-        return Event {
-            kind: 7,
-            a: FIRST,
-            b: 0,
-            losses: 1,
-        };
-    }
+    let lost = loses(answer);
     Event {
-        kind: 6,
+        kind: if lost { LOSE } else { DELIVER },
         a: FIRST,
         b: 0,
-        losses: 0,
+        losses: u32::from(lost),
     }
 }
 

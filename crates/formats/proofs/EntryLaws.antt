@@ -2,15 +2,15 @@
 use Prim.Native.Nat.{ℕ, ◌+◌, ◌*◌, ◌≤◌, ◌<◌}
 use mathlib.Core.Path.{◌≡◌, refl, sym, ap, ◌∙◌}
 use mathlib.Core.Bool.{Bool, true}
-use mathlib.Core.List.{List}
-use lib.ListN.{length, get_or, get_or-eq_default}
+use mathlib.Core.List.{List, map}
+use lib.ListN.{length, get_or, get_or-map, get_or-eq_default}
 use lib.Dec.{ltb}
 use mir.Val.{bool_byte}
 use native.Mathlib.Omega.{arith}
 use borrow.Author.Tests.{ltb-true, ltb-false, ne_eqb}
 use Rattle.base.proofs.Booleans.{choose, Trichotomy, less, equal, more, trichotomy}
 use Rattle.base.specs.Lists.{tabulate}
-use Rattle.base.proofs.Loops.{tabulate-same, tabulate-or, tabulate-part}
+use Rattle.base.proofs.Loops.{tabulate-same, tabulate-or}
 use Rattle.label.specs.declared.Label.{Label}
 use Rattle.codec.specs.Bytes.{byte_at}
 use Rattle.codec.specs.Fields.{values, Fits}
@@ -21,15 +21,12 @@ use Rattle.model.specs.Memory.{Successor, Row, Record, Body, request, reply, err
 use Rattle.rows.specs.declared.Row as code
 use Rattle.rows.specs.View.{entry_of, row_of, Written}
 use Rattle.rows.proofs.Bounds.{RowLengths, entry_past}
-use Rattle.network.specs.declared.Record as network
-use Rattle.network.specs.declared.Packet as network-packet
 use Rattle.network.specs.declared.Air.{Air}
 use Rattle.network.specs.View as view
 use Rattle.network.specs.View.{record_of, request_of, reply_of, body_of, packet_of, packets_of, air_of}
 use Rattle.network.proofs.PacketLaws.{packet_in}
 use Rattle.formats.specs.Formats.{label_format, label_from, successor_format, successor_from, successor_wide, zero_successor, row_wide, record_format, record_from, Station, station_format, station_from, link_format, link_from, packet_format, reset_in, packet_from, packet_wide, air_wide, plain_body, plain_of, with_body, Known}
-use Rattle.formats.specs.Entries.{record_in}
-use Rattle.formats.specs.Stored.{stored_label, stored_successor, stored_row, stored_record, stored_station, stored_link, stored_fields, stored_packet, stored_air}
+use Rattle.formats.specs.Stored.{stored_label, stored_successor, stored_row, stored_record, stored_station, stored_link, stored_packet, stored_air}
 use Rattle.formats.specs.Written.{label_bytes, successor_bytes, row_bytes, record_bytes, station_bytes, link_bytes, packet_bytes, air_bytes}
 use Rattle.formats.specs.Fits.{RowFits, PacketFits}
 use Rattle.formats.specs.Meaning.{is_zero_label, fields_have_meaning, packet_has_meaning}
@@ -43,11 +40,6 @@ packet-wide p = written-wide packet_format (plain_of p)
 
 pub air-wide : (air : List Packet) → length (air_bytes air) ≡ air_wide
 air-wide air = counted-wide packet_bytes _ packet-wide air_limit zero_packet air
-
--- A record of the code is read as the model's.
-pub record-in : (r : network.Record) → record_of r ≡ record_in r
-unfolding record_of
-record-in r = refl
 
 -- Reading back.
 module _ (bytes : List ℕ) (at : ℕ) where
@@ -148,18 +140,13 @@ unfolding packet_of body_of zero_packet
 zero-packet = refl
 
 -- An air whose packets are those at a place.
-pub air-stored : (bytes : List ℕ) (at : ℕ) (air : Air) → air.packets ≡ tabulate air_limit (λ j. stored_fields bytes (at + 1 + packet_wide * j))
+pub air-stored : (bytes : List ℕ) (at : ℕ) (air : Air) → map packet_of air.packets ≡ table_at stored_packet packet_wide air_limit bytes (at + 1)
     → air.count ≡ byte_at bytes at → air_of air ≡ stored_air bytes at
-unfolding packets_of stored_air counted_at padded table_at
+unfolding packets_of stored_air counted_at padded
 air-stored bytes at air packets count = λ i. tabulate (count i) (λ k. same k i)
   where
-    f : ℕ → network-packet.Packet
-    f j = stored_fields bytes (at + 1 + packet_wide * j)
-
-    same : (k : ℕ) → packet_in air.packets k ≡ get_or (tabulate air_limit (λ j. packet_of (f j))) k zero_packet
-    same k =
-        ap (λ (l : List network-packet.Packet). packet_of (get_or l k view.zero_packet)) packets ∙ sym (tabulate-part packet_of air_limit f k view.zero_packet)
-        ∙ ap (get_or (tabulate air_limit (λ j. packet_of (f j))) k) zero-packet
+    same : (k : ℕ) → packet_in air.packets k ≡ get_or (table_at stored_packet packet_wide air_limit bytes (at + 1)) k zero_packet
+    same k = sym (get_or-map packet_of air.packets k view.zero_packet) ∙ (λ i. get_or (packets i) k (zero-packet i))
 
 pub air-past : (air : Air) → length air.packets ≡ air_limit → (k : ℕ) → air_limit ≤ k → get_or (air_of air) k zero_packet ≡ zero_packet
 unfolding packets_of

@@ -13,21 +13,20 @@ pub struct Fraction {
 
 // The simplest fraction strictly between x and y, where y is at most 1, by a run to the left: a step takes m/d to m/(d − m), as long as y is
 // at most 1, and the run's k steps are taken at once. Then 1/1 lies between the two, or x is at least 1 and a run to the right follows.
+// `Searched x y` stays with x and y apart: `simplest_between` takes them so, and a struct of the two would be built anew at each call.
 #[cycle(left_right)]
 fn left(x: Fraction, y: Fraction) -> Fraction
     requires searched { Searched x y }
     requires m_le_d { y.m ≤ y.d }
     ensures { Simplest x y result }
 {
-    let p = x.m;
-    let m = y.m;
-    let k = y.d / m;
-    let q = x.d - k * p;
-    let d = y.d % m;
-    if p < q {
+    let k = y.d / y.m;
+    let q = x.d - k * x.m;
+    let d = y.d % y.m;
+    if x.m < q {
         return Fraction { m: 1, d: k + 1 };
     }
-    let f = right(Fraction { m: p, d: q }, Fraction { m: m, d: d });
+    let f = right(Fraction { m: x.m, d: q }, Fraction { m: y.m, d });
     Fraction {
         m: f.m,
         d: f.d + k * f.m,
@@ -41,15 +40,13 @@ fn right(x: Fraction, y: Fraction) -> Fraction
     requires { Searched x y }
     ensures { Simplest x y result }
 {
-    let q = x.d;
-    let d = y.d;
-    let k = x.m / q;
-    let m = y.m - k * d;
-    let p = x.m % q;
-    if d < m {
+    let k = x.m / x.d;
+    let m = y.m - k * y.d;
+    let p = x.m % x.d;
+    if y.d < m {
         return Fraction { m: k + 1, d: 1 };
     }
-    let f = left(Fraction { m: p, d: q }, Fraction { m: m, d: d });
+    let f = left(Fraction { m: p, d: x.d }, Fraction { m, d: y.d });
     Fraction {
         m: f.m + k * f.d,
         d: f.d,

@@ -2,11 +2,11 @@
 use Prim.Native.Nat.{ℕ, ◌<◌, ◌≤◌}
 use mathlib.Core.Path.{◌≡◌, refl, sym, ◌∙◌}
 use mathlib.Core.Logic.{◌⊎◌, inl, inr}
-use mathlib.Core.Bool.{Bool, true, false, ◌&&◌}
+use mathlib.Core.Bool.{Bool, true, false}
 use native.Mathlib.Nat.{lt_of_lt_of_le}
 use native.Mathlib.Omega.{arith}
-use lib.Dec.{ltb, leb}
-use borrow.Author.Tests.{lt-ltb, le-ltb, le-leb, eq-eqb, ltb-true, ltb-false}
+use lib.Dec.{ltb}
+use borrow.Author.Tests.{lt-ltb, le-ltb, eq-eqb, ltb-true, ltb-false}
 use Rattle.base.specs.Numbers.{max_u32}
 use Rattle.base.proofs.Booleans.{clash}
 use Rattle.fraction.specs.declared.Fraction.{Fraction}
@@ -14,16 +14,16 @@ use Rattle.fraction.specs.Fraction.{◌⊏◌, Between, Simplest, simplest}
 use Rattle.fraction.proofs.Runs.{sums-between}
 use Rattle.fraction.proofs.Simplest.{simplest-is, between-proper}
 use Rattle.label.specs.declared.Label.{Label}
-use Rattle.label.specs.Label.{label, in_range, above, ◌≻◌, ◌⪰◌, Outcome, took, gave, fraction_of, fitting, next, Splitting, split, mediant, SplitRule, new_label_by, new_label, new_label_call, MaintainsOrder, KeepsOrder}
-use Rattle.label.proofs.Range.{assigned-in-range, range-cases, InRange, is-unassigned, is-assigned, range-fraction, range-assigned}
+use Rattle.label.specs.Label.{label, in_range, above, ◌≻◌, ◌⪰◌, Outcome, took, gave, fraction_of, fitting, next, Splitting, split, mediant, SplitRule, new_label_by, new_label, MaintainsOrder, KeepsOrder}
+use Rattle.label.proofs.Range.{assigned-in-range, range-cases, InRange, is-unassigned, is-assigned, range_fraction, range-assigned}
 use Rattle.label.proofs.Order.{above_lower, above-higher, Ordered, by_number, by_fraction, ≻-ordered, ordered-≻, ≻-number, ⪰-number, above_same, ≻-irreflexive, ≻-asymmetric, ⪰-≻-transitive}
 
 -- A denominator that fits, and one that doesn't.
-pub fitting-fits : (s m d : ℕ) → d ≤ max_u32 → fitting s m d ≡ took (label s m d)
+fitting-fits : (s m d : ℕ) → d ≤ max_u32 → fitting s m d ≡ took (label s m d)
 unfolding fitting
 fitting-fits s m d h = simp (le-ltb max_u32 d h)
 
-pub fitting-over : (s m d : ℕ) → max_u32 < d → fitting s m d ≡ gave 114
+fitting-over : (s m d : ℕ) → max_u32 < d → fitting s m d ≡ gave 114
 unfolding fitting
 fitting-over s m d h = simp (lt-ltb _ _ h)
 
@@ -59,16 +59,16 @@ pub data Taken (splits : Splitting) (a c v g : Label) : Type 0 where
 
 -- New label, by its cases.
 module _ (splits : Splitting) (a c v : Label) where
-  pub new-112 : above a v ≡ false → new_label_by splits a c v ≡ gave 112
+  new-112 : above a v ≡ false → new_label_by splits a c v ≡ gave 112
   unfolding new_label_by
   new-112 ha = simp ha
 
-  pub new-113 : above a v ≡ true → above c v ≡ false → new_label_by splits a c v ≡ gave 113
+  new-113 : above a v ≡ true → above c v ≡ false → new_label_by splits a c v ≡ gave 113
   unfolding new_label_by
   new-113 ha hc = simp (ha, hc)
 
   module _ (ha : above a v ≡ true) (hc : above c v ≡ true) where
-    pub new-next : a.s.0 < v.s.0 → c.s.0 < v.s.0 → new_label_by splits a c v ≡ next v
+    new-next : a.s.0 < v.s.0 → c.s.0 < v.s.0 → new_label_by splits a c v ≡ next v
     unfolding new_label_by
     new-next la lc = simp (ha, hc, lt-ltb _ _ la, lt-ltb _ _ lc)
 
@@ -76,27 +76,19 @@ module _ (splits : Splitting) (a c v : Label) where
     unfolding new_label_by
     new-split-cached la lc = simp (ha, hc, lt-ltb _ _ la, le-ltb _ _ lc, eq-eqb c.s.0 v.s.0 (omega (arith, ≻-number c v hc)))
 
-    pub new-own : v.s.0 ≤ a.s.0 → above c a ≡ true → new_label_by splits a c v ≡ took a
+    new-own : v.s.0 ≤ a.s.0 → above c a ≡ true → new_label_by splits a c v ≡ took a
     unfolding new_label_by
     new-own la h = simp (ha, hc, le-ltb _ _ la, h)
 
-    pub new_split : v.s.0 ≤ a.s.0 → above c a ≡ false → new_label_by splits a c v ≡ splits c v
+    new_split : v.s.0 ≤ a.s.0 → above c a ≡ false → new_label_by splits a c v ≡ splits c v
     unfolding new_label_by
     new_split la h = simp (ha, hc, le-ltb _ _ la, h)
 
     -- A split is what is left, and then the cached label has the advertised sequence number.
-    pub new-split-left : ltb a.s.0 v.s.0 && ltb c.s.0 v.s.0 ≡ false → leb v.s.0 a.s.0 && above c a ≡ false
+    pub new-split-left : (a.s.0 < v.s.0) × (v.s.0 ≤ c.s.0) ⊎ (v.s.0 ≤ a.s.0) × (above c a ≡ false)
         → (new_label_by splits a c v ≡ splits c v) × (c.s.0 ≡ v.s.0)
-    new-split-left p q = go (ltb a.s.0 v.s.0) refl
-      where
-        go : (t : Bool) → ltb a.s.0 v.s.0 ≡ t → (new_label_by splits a c v ≡ splits c v) × (c.s.0 ≡ v.s.0)
-        go true e =
-            let least = ltb-false c.s.0 v.s.0 (rw e at p) in
-            (new-split-cached (ltb-true _ _ e) least, omega (arith, ≻-number c v hc))
-        go false e =
-            let least = ltb-false a.s.0 v.s.0 e in
-            let below = rw (le-leb v.s.0 a.s.0 least) at q in
-            (new_split least below, omega (arith, ≻-number c v hc, ⪰-number a c below))
+    new-split-left (inl (l, n)) = (new-split-cached l n, omega (arith, ≻-number c v hc))
+    new-split-left (inr (l, k)) = (new_split l k, omega (arith, ≻-number c v hc, ⪰-number a c k))
 
     -- Where the own and the cached label are above the advertised one.
     taken-above : {g : Label} → new_label_by splits a c v ≡ took g → Ordered ◌<◌ a v → Ordered ◌<◌ c v → (t : Bool) → above c a ≡ t → Taken splits a c v g
@@ -114,24 +106,6 @@ module _ (splits : Splitting) (a c v : Label) where
       go false ha u hc = gave-none (new-112 ha) h
       go true ha false hc = gave-none (new-113 ha hc) h
       go true ha true hc = taken-above ha hc h (≻-ordered a v ha) (≻-ordered c v hc) (above c a) refl
-
--- The call, by its cases.
-module _ (a c v : Label) where
-  pub call-own-out : in_range a ≡ false → new_label_call a c v ≡ gave 1
-  unfolding new_label_call
-  call-own-out ha = simp ha
-
-  pub call-cached-out : in_range a ≡ true → in_range c ≡ false → new_label_call a c v ≡ gave 1
-  unfolding new_label_call
-  call-cached-out ha hc = simp (ha, hc)
-
-  pub call-advertised-out : in_range a ≡ true → in_range c ≡ true → in_range v ≡ false → new_label_call a c v ≡ gave 1
-  unfolding new_label_call
-  call-advertised-out ha hc hv = simp (ha, hc, hv)
-
-  pub call-in-range : in_range a ≡ true → in_range c ≡ true → in_range v ≡ true → new_label_call a c v ≡ new_label a c v
-  unfolding new_label_call
-  call-in-range ha hc hv = simp (ha, hc, hv)
 
 -- A rule for splits that takes labels of the advertised sequence number, with fractions strictly between.
 record Splits (c v g : Label) : Type 0 where
@@ -171,7 +145,7 @@ module _ (a c v g : Label) (ra : in_range a ≡ true) (rc : in_range c ≡ true)
         own = own o;
         cached = below;
         advertised = ordered-≻ g v (by_fraction s.number s.between.above.products);
-        ranged = assigned-in-range g (omega (arith, s.number, both-assigned e smaller)) (between-proper s.between (range-fraction c rc));
+        ranged = assigned-in-range g (omega (arith, s.number, both-assigned e smaller)) (between-proper s.between (range_fraction c rc));
       }
     where
       below : c ≻ g

@@ -10,11 +10,11 @@ use Rattle.label.specs.declared.Label.{Label}
 use Rattle.label.specs.Label.{unassigned, is_unassigned, in_range}
 
 -- By cases on the sequence number.
-pub range-zero : (l : Label) → l.s.0 ≡ 0 → in_range l ≡ eqb l.m 1 && eqb l.d 1
+range-zero : (l : Label) → l.s.0 ≡ 0 → in_range l ≡ eqb l.m 1 && eqb l.d 1
 unfolding in_range is_unassigned
 range-zero l e = simp (eq-eqb _ _ e, le-ltb 0 l.s.0 (omega arith), or-false)
 
-pub range_other : (l : Label) → (l.s.0 ≡ 0 → ⊥) → in_range l ≡ ltb l.m l.d
+range_other : (l : Label) → (l.s.0 ≡ 0 → ⊥) → in_range l ≡ ltb l.m l.d
 unfolding in_range is_unassigned
 range_other l e = simp (ne_eqb _ _ e, lt-ltb 0 l.s.0 (omega (arith, e)))
 
@@ -43,8 +43,8 @@ range-cases l h = go (eqb l.s.0 0) refl
         is-assigned (omega (arith, z)) (ltb-true _ _ (sym (range_other l z) ∙ h))
 
 -- Its fraction is at most 1, and below 1 where it is assigned; its denominator is not 0.
-pub range-fraction : (l : Label) → in_range l ≡ true → l.m ≤ l.d
-range-fraction l h = go (range-cases l h)
+pub range_fraction : (l : Label) → in_range l ≡ true → l.m ≤ l.d
+range_fraction l h = go (range-cases l h)
   where
     go : InRange l → l.m ≤ l.d
     go (is-unassigned z m d) = omega arith

@@ -1,11 +1,11 @@
 -- Labels, their range, their order and New label (01, "Labels"; 003, Definitions 1 and 4 to 6, Algorithm 1).
-use Rattle.std.specs.Prelude.{ℕ, ◌+◌, ◌<◌, ◌≡◌, ◌↔◌, Bool, true, false, ◌&&◌, ◌||◌, not, ltb, eqb, if◌then◌else◌}
+use Rattle.std.specs.Prelude.{ℕ, ◌+◌, ◌<◌, ◌≡◌, ◌↔◌, Bool, true, false, ◌&&◌, ◌||◌, not, ltb, eqb, if◌then◌else◌, Result, Ok, Err}
 use Rattle.base.specs.Numbers.{max_u32}
 use Rattle.fraction.specs.declared.Fraction.{Fraction}
 use Rattle.fraction.specs.Fraction.{fraction, is_smaller, Between, Simplest, simplest}
 use Rattle.label.specs.declared.Label.{Label}
-use Rattle.label.specs.declared.NewLabel.{NewLabel}
-use Rattle.label.specs.declared.NewLabel.TheVariants.{Took, OutOfRange, OwnNotAbove, CachedNotAbove, Overflow}
+use Rattle.label.specs.declared.NotTaken.{NotTaken}
+use Rattle.label.specs.declared.NotTaken.TheVariants.{OutOfRange, OwnNotAbove, CachedNotAbove, Overflow}
 
 -- "A label is (s, m/d)".
 abbrev pub label : ℕ → ℕ → ℕ → Label
@@ -94,12 +94,12 @@ unfoldable pub new_label_call : Label → Label → Label → Outcome
 new_label_call a c v = if not (in_range a && in_range c && in_range v) then gave 1 else new_label a c v
 
 -- 01's number, or the label, for each answer of the code.
-abbrev pub outcome : NewLabel → Outcome
-outcome (Took l) = took l
-outcome OutOfRange = gave 1
-outcome OwnNotAbove = gave 112
-outcome CachedNotAbove = gave 113
-outcome Overflow = gave 114
+abbrev pub outcome : Result Label NotTaken → Outcome
+outcome (Ok l) = took l
+outcome (Err OutOfRange) = gave 1
+outcome (Err OwnNotAbove) = gave 112
+outcome (Err CachedNotAbove) = gave 113
+outcome (Err Overflow) = gave 114
 
 -- The label g maintains order (003, Definition 1) for own label a, cached label c and advertised label v: equations 3, 4 and 5; and it is in range.
 pub record MaintainsOrder (a c v g : Label) : Type 0 where

@@ -1,51 +1,35 @@
 // The whole memory in bytes.
-ghost use Rattle.std.specs.Prelude.{◌≡◌, false, ◌≤◌, length};
-ghost use mathlib.Core.List.{[], map, flat_map};
+ghost use Rattle.std.specs.Prelude.{◌≡◌, ◌≤◌, length};
+ghost use mathlib.Core.List.{map, flat_map};
 ghost use Rattle.std.proofs.lemmas.List.Edits.{sets};
 ghost use Rattle.base.specs.Lists.{tabulate};
 ghost use Rattle.codec.specs.Bytes.{over};
 ghost use Rattle.codec.specs.Fields.{Fits};
 ghost use Rattle.codec.specs.Tables.{table_at, TableFits};
-ghost use Rattle.model.specs.Memory.{zero_label, zero_record};
-ghost use Rattle.rows.specs.View.{row_of};
-ghost use Rattle.network.specs.View.{record_of, label_of, view};
-ghost use Rattle.formats.specs.Formats.{label_format, label_wide, row_wide, record_format, record_wide, station_format, zero_station, link_format, link_wide};
-ghost use Rattle.formats.specs.Stored.{stored_label, stored_row, stored_record, stored_link};
-ghost use Rattle.formats.specs.Written.{label_bytes, row_bytes, record_bytes, station_bytes, link_bytes};
-ghost use Rattle.formats.specs.Fits.{RowFits};
-ghost use Rattle.layout.specs.Places.{layout_length, stations_at, links_at, labels_at, rows_at, records_at};
+ghost use Rattle.model.specs.Memory.{fresh, zero_label};
+ghost use Rattle.network.specs.View.{label_of, view};
+ghost use Rattle.formats.specs.Formats.{label_format, label_wide, station_format, zero_station};
+ghost use Rattle.formats.specs.Stored.{stored_label};
+ghost use Rattle.formats.specs.Written.{label_bytes, station_bytes};
+ghost use Rattle.layout.specs.Places.{layout_length, stations_at, labels_at};
 ghost use Rattle.layout.specs.Stations.{stations_from};
 ghost use Rattle.layout.specs.Stored.{stored_stations, network_in};
 ghost use Rattle.layout.specs.Written.{network_bytes};
 ghost use Rattle.layout.specs.Fits.{NetworkFits};
 ghost use Rattle.layout.specs.Meaning.{stored_network};
 
-use crate::meaning::not_memory;
+use crate::meaning::Whole;
 use crate::places::{
     AIR_AT, LABELS_AT, LIMIT_AT, LINKS_AT, RECORDS_AT, ROWS_AT, SIZE_AT, STATIONS_AT, VERSION,
 };
 use codec::put_byte;
-use formats::entries::{
-    Station, put_label, put_link, put_record, put_row, put_station, read_label, read_link,
-    read_record, read_row, read_station,
-};
+use formats::entries::{Station, put_label, put_station, read_label, read_station};
 use formats::packets::{put_air, read_air};
-use formats::{LABEL_BYTES, LINK_BYTES, RECORD_BYTES, ROW_BYTES, STATION_BYTES};
+use formats::table::{put_table, read_table};
+use formats::{LABEL_BYTES, STATION_BYTES};
 use label::label_of;
 use network::opening::fresh;
-use network::{Memory, Record, RequestNumber};
-use rows::{Row, empty_row};
-
-// What the table of records is filled with before it is read.
-fn blank_record() -> Record {
-    Record {
-        cached: label_of(0, 0, 0),
-        number: RequestNumber(0),
-        destination: 0,
-        last_hop: 0,
-        passed: false,
-    }
-}
+use network::{Memory, RequestNumber};
 
 // The tables of s, m and d.
 #[derive(Clone, Copy)]
@@ -55,63 +39,20 @@ pub struct Labels {
     pub d: [u32; 256],
 }
 
-fn read_labels(bytes: &[u8]) -> Labels
-    requires { layout_length ≤ length bytes.now }
-    ensures { tabulate 256 (label_of result.s result.m result.d) ≡ table_at stored_label label_wide 256 bytes.now labels_at }
+// The memory has s, m and d in a table each, so that this is no table of entries.
+fn read_labels(bytes: &Whole) -> Labels
+    ensures { tabulate 256 (label_of result.s result.m result.d) ≡ table_at stored_label label_wide 256 bytes.now.all.now labels_at }
 {
     let mut s = [0; 256];
     let mut m = [0; 256];
     let mut d = [0; 256];
-    let mut i = 0;
-    while i < 256 {
-        let label = read_label(bytes, LABELS_AT + LABEL_BYTES * i);
+    for i in 0..256 {
+        let label = read_label(bytes.all, LABELS_AT + LABEL_BYTES * i);
         s[i] = label.s.0;
         m[i] = label.m;
         d[i] = label.d;
-        i += 1;
     }
-    Labels { s: s, m: m, d: d }
-}
-
-fn read_rows(bytes: &[u8]) -> [Row; 256]
-    requires { layout_length ≤ length bytes.now }
-    ensures { map row_of result ≡ table_at stored_row row_wide 256 bytes.now rows_at }
-{
-    let none = empty_row();
-    let mut rows = [none; 256];
-    let mut i = 0;
-    while i < 256 {
-        rows[i] = read_row(bytes, ROWS_AT + ROW_BYTES * i);
-        i += 1;
-    }
-    rows
-}
-
-fn read_records(bytes: &[u8]) -> [Record; 256]
-    requires { layout_length ≤ length bytes.now }
-    ensures { map record_of result ≡ table_at stored_record record_wide 256 bytes.now records_at }
-{
-    let none = blank_record();
-    let mut records = [none; 256];
-    let mut i = 0;
-    while i < 256 {
-        records[i] = read_record(bytes, RECORDS_AT + RECORD_BYTES * i);
-        i += 1;
-    }
-    records
-}
-
-fn read_links(bytes: &[u8]) -> [bool; 256]
-    requires { layout_length ≤ length bytes.now }
-    ensures { result ≡ table_at stored_link link_wide 256 bytes.now links_at }
-{
-    let mut links = [false; 256];
-    let mut i = 0;
-    while i < 256 {
-        links[i] = read_link(bytes, LINKS_AT + LINK_BYTES * i);
-        i += 1;
-    }
-    links
+    Labels { s, m, d }
 }
 
 // What the stations keep of their own requests and sendings.
@@ -123,149 +64,109 @@ pub struct Stations {
     pub serials: [u64; 16],
 }
 
-fn read_stations(bytes: &[u8]) -> Stations
-    requires { layout_length ≤ length bytes.now }
-    ensures { (map (λ k. k.0) result.numbers ≡ map (λ k. k.number) (stored_stations bytes.now))
-        × (result.sought ≡ map (λ k. k.sought) (stored_stations bytes.now)) × (result.active ≡ map (λ k. k.active) (stored_stations bytes.now))
-        × (result.serials ≡ map (λ k. k.serial) (stored_stations bytes.now)) }
+// What the stations keep has a table for each field too.
+fn read_stations(bytes: &Whole) -> Stations
+    ensures { (map (λ k. k.0) result.numbers ≡ map (λ k. k.number) (stored_stations bytes.now.all.now))
+        × (result.sought ≡ map (λ k. k.sought) (stored_stations bytes.now.all.now)) × (result.active ≡ map (λ k. k.active) (stored_stations bytes.now.all.now))
+        × (result.serials ≡ map (λ k. k.serial) (stored_stations bytes.now.all.now)) }
 {
-    let none = RequestNumber(0);
-    let mut numbers = [none; 16];
+    let mut numbers = [RequestNumber(0); 16];
     let mut sought = [0; 16];
     let mut active = [false; 16];
     let mut serials = [0; 16];
-    let mut i = 0;
-    while i < 16 {
-        let kept = read_station(bytes, STATIONS_AT + STATION_BYTES * i);
-        let number = kept.number;
-        numbers[i] = number;
+    for i in 0..16 {
+        let kept = read_station(bytes.all, STATIONS_AT + STATION_BYTES * i);
+        numbers[i] = kept.number;
         sought[i] = kept.sought;
         active[i] = kept.active;
         serials[i] = kept.serial;
-        i += 1;
     }
     Stations {
-        numbers: numbers,
-        sought: sought,
-        active: active,
-        serials: serials,
+        numbers,
+        sought,
+        active,
+        serials,
     }
 }
 
-// The memory that the bytes read as.
-fn read(bytes: &[u8]) -> Memory
-    requires { layout_length ≤ length bytes.now }
-    ensures { view result ≡ network_in bytes.now }
+// The memory that the bytes read as. Not inlined, so that no call needs stack for it and for fresh memory at once.
+#[inline(never)]
+fn read(bytes: &Whole) -> Memory
+    ensures { view result ≡ network_in bytes.now.all.now }
 {
-    let air = read_air(bytes, AIR_AT);
-    let labels = read_labels(bytes);
-    let rows = read_rows(bytes);
-    let records = read_records(bytes);
-    let kept = read_stations(bytes);
-    let links = read_links(bytes);
-    let n = bytes[SIZE_AT];
-    let limit = bytes[LIMIT_AT];
-    let s = labels.s;
-    let m = labels.m;
-    let d = labels.d;
-    let numbers = kept.numbers;
-    let sought = kept.sought;
-    let active = kept.active;
-    let serials = kept.serials;
+    let rows = read_table(bytes.all, ROWS_AT);
+    let records = read_table(bytes.all, RECORDS_AT);
+    let links = read_table(bytes.all, LINKS_AT);
+    let air = read_air(bytes.all, AIR_AT);
+    let Labels { s, m, d } = read_labels(bytes);
+    let Stations {
+        numbers,
+        sought,
+        active,
+        serials,
+    } = read_stations(bytes);
     Memory {
-        s: s,
-        m: m,
-        d: d,
-        serials: serials,
-        rows: rows,
-        records: records,
-        numbers: numbers,
-        sought: sought,
-        active: active,
-        links: links,
-        air: air,
-        n: n,
-        limit: limit,
+        s,
+        m,
+        d,
+        serials,
+        rows,
+        records,
+        numbers,
+        sought,
+        active,
+        links,
+        air,
+        n: bytes.all[SIZE_AT],
+        limit: bytes.all[LIMIT_AT],
     }
 }
 
-// The memory that stands in the bytes. Those that hold none give memory of no stations, which is out of range.
+// Memory of no stations. Not inlined, as `read` is not.
+#[inline(never)]
+fn no_stations() -> Memory
+    ensures { view result ≡ fresh 0 0 0 }
+{
+    fresh(0, 0, 0)
+}
+
+// The memory that stands in the bytes. Those that hold none give memory of no stations, which is out of range. Inlined: a call needs no copy of
+// its own for it.
+#[inline(always)]
 pub fn load(bytes: &[u8]) -> Memory
     ensures { view result ≡ stored_network bytes.now }
 {
-    if not_memory(bytes) {
-        return fresh(0, 0, 0);
+    match Whole::of(bytes) {
+        Some(whole) if whole.has_meaning() => read(&whole),
+        _ => no_stations(),
     }
-    read(bytes)
 }
 
+// Each station's own fields to their places; a table for each field, as in `read_stations`.
 fn write_stations(out: &mut [u8], kept: Stations)
     requires { layout_length ≤ length out.old }
     ensures { (out.new ≡ sets out.old stations_at (flat_map station_bytes (stations_from kept)))
         × TableFits 16 zero_station (Fits station_format) (stations_from kept) }
 {
-    let mut i = 0;
-    while i < 16 {
-        let number = kept.numbers[i];
-        let sought = kept.sought[i];
-        let active = kept.active[i];
-        let serial = kept.serials[i];
+    for i in 0..16 {
         let station = Station {
-            number: number,
-            sought: sought,
-            active: active,
-            serial: serial,
+            number: kept.numbers[i],
+            sought: kept.sought[i],
+            active: kept.active[i],
+            serial: kept.serials[i],
         };
         put_station(out, STATIONS_AT + STATION_BYTES * i, station);
-        i += 1;
     }
 }
 
-fn write_links(out: &mut [u8], links: [bool; 256])
+// The tables s, m and d to their places, as in `read_labels`.
+fn write_labels(out: &mut [u8], s: &[u64; 256], m: &[u32; 256], d: &[u32; 256])
     requires { layout_length ≤ length out.old }
-    ensures { (out.new ≡ sets out.old links_at (flat_map link_bytes links)) × TableFits 256 false (Fits link_format) links }
+    ensures { (out.new ≡ sets out.old labels_at (flat_map label_bytes (tabulate 256 (label_of s.now m.now d.now))))
+        × TableFits 256 zero_label (Fits label_format) (tabulate 256 (label_of s.now m.now d.now)) }
 {
-    let mut i = 0;
-    while i < 256 {
-        put_link(out, LINKS_AT + LINK_BYTES * i, links[i]);
-        i += 1;
-    }
-}
-
-fn write_labels(out: &mut [u8], s: [u64; 256], m: [u32; 256], d: [u32; 256])
-    requires { layout_length ≤ length out.old }
-    ensures { (out.new ≡ sets out.old labels_at (flat_map label_bytes (tabulate 256 (label_of s m d))))
-        × TableFits 256 zero_label (Fits label_format) (tabulate 256 (label_of s m d)) }
-{
-    let mut i = 0;
-    while i < 256 {
+    for i in 0..256 {
         put_label(out, LABELS_AT + LABEL_BYTES * i, label_of(s[i], m[i], d[i]));
-        i += 1;
-    }
-}
-
-fn write_rows(out: &mut [u8], rows: [Row; 256])
-    requires { layout_length ≤ length out.old }
-    ensures { (out.new ≡ sets out.old rows_at (flat_map row_bytes (map row_of rows))) × TableFits 256 [] RowFits (map row_of rows) }
-{
-    let mut i = 0;
-    while i < 256 {
-        let row = rows[i];
-        put_row(out, ROWS_AT + ROW_BYTES * i, row);
-        i += 1;
-    }
-}
-
-fn write_records(out: &mut [u8], records: [Record; 256])
-    requires { layout_length ≤ length out.old }
-    ensures { (out.new ≡ sets out.old records_at (flat_map record_bytes (map record_of records)))
-        × TableFits 256 zero_record (Fits record_format) (map record_of records) }
-{
-    let mut i = 0;
-    while i < 256 {
-        let record = records[i];
-        put_record(out, RECORDS_AT + RECORD_BYTES * i, record);
-        i += 1;
     }
 }
 
@@ -274,32 +175,34 @@ pub fn write(out: &mut [u8], memory: Memory)
     requires { layout_length ≤ length out.old }
     ensures { (out.new ≡ over (network_bytes (view memory)) out.old) × NetworkFits (view memory) }
 {
-    let n = memory.n;
-    let limit = memory.limit;
-    let numbers = memory.numbers;
-    let sought = memory.sought;
-    let active = memory.active;
-    let serials = memory.serials;
-    let links = memory.links;
-    let s = memory.s;
-    let m = memory.m;
-    let d = memory.d;
-    let rows = memory.rows;
-    let records = memory.records;
-    let air = memory.air;
+    let Memory {
+        s,
+        m,
+        d,
+        serials,
+        rows,
+        records,
+        numbers,
+        sought,
+        active,
+        links,
+        air,
+        n,
+        limit,
+    } = memory;
     let kept = Stations {
-        numbers: numbers,
-        sought: sought,
-        active: active,
-        serials: serials,
+        numbers,
+        sought,
+        active,
+        serials,
     };
     put_byte(out, 0, VERSION);
     put_byte(out, SIZE_AT, n);
     write_stations(out, kept);
-    write_links(out, links);
-    write_labels(out, s, m, d);
-    write_rows(out, rows);
-    write_records(out, records);
+    put_table(out, LINKS_AT, &links);
+    write_labels(out, &s, &m, &d);
+    put_table(out, ROWS_AT, &rows);
+    put_table(out, RECORDS_AT, &records);
     put_air(out, AIR_AT, air);
     put_byte(out, LIMIT_AT, limit);
 }

@@ -9,11 +9,12 @@ use Rattle.std.specs.Prelude.{if◌then◌else◌}
 use Rattle.model.specs.Memory.{Network, memory_in_range, Sized}
 use Rattle.model.specs.Calls.{Call, Up, Down, Solicit, GiveUp, Expire, Deliver, Lose, Duplicate}
 use Rattle.model.specs.Calls.{not_station, not_pair, not_packet, step, traced, trace}
-use Rattle.model.specs.Preview.{number_shown, preview}
+use Rattle.base.specs.Results.{refused}
+use Rattle.model.specs.Preview.{previewing}
 use Rattle.model.specs.Events.{uses_one, not_event, call_of}
 use Rattle.model.proofs.Range.{Invariant, in-range-invariant}
 use Rattle.model.proofs.Refusals.{pair-tells, out_of_range, up-2, down-2, solicit-2, expire-2, give-up-2, deliver-6, lose-6, duplicate-6}
-use Rattle.model.proofs.PreviewLaws.{preview-refused, preview-out-of-range}
+use Rattle.model.proofs.PreviewLaws.{previewing-refused, previewing-out-of-range}
 use Rattle.model.proofs.Tracing.{trace-out-of-range, trace-no-pair}
 use Rattle.model.proofs.EventLaws.{call-on-memory}
 
@@ -79,12 +80,12 @@ module _ (net : Network) (sized : Sized net) (a b : ℕ) where
       go true e = call-in-range e kind
       go false e = out_of_range _ net (call-on-memory kind (min a 255) (min b 255)) e ∙ sym (out_of_range _ net (call-on-memory kind a b) e)
 
-  pub preview-narrowed : preview net (min a 255) ≡ preview net a
-  preview-narrowed = go (memory_in_range net) refl
+  pub previewing-narrowed : previewing net (min a 255) ≡ previewing net a
+  previewing-narrowed = go (memory_in_range net) refl
     where
-      go : (t : Bool) → memory_in_range net ≡ t → preview net (min a 255) ≡ preview net a
-      go true e = narrowed (preview net) (number_shown 6) (λ x h. preview-refused net x 6 (deliver-6 net e x (no-packet e x h))) a
-      go false e = preview-out-of-range net (min a 255) e ∙ sym (preview-out-of-range net a e)
+      go : (t : Bool) → memory_in_range net ≡ t → previewing net (min a 255) ≡ previewing net a
+      go true e = narrowed (previewing net) (refused 6) (λ x h. previewing-refused net x 6 (deliver-6 net e x (no-packet e x h))) a
+      go false e = previewing-out-of-range net (min a 255) e ∙ sym (previewing-out-of-range net a e)
 
   pub trace-narrowed : trace net (min a 255) (min b 255) ≡ trace net a b
   trace-narrowed = go (memory_in_range net) refl

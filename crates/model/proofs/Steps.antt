@@ -134,3 +134,11 @@ module _ (net : Network) (sized : Sized net) where
 
   pub accepted-in-range : (c : Call) (e : Effect) → step c net ≡ accepted e → memory_in_range e.net ≡ true
   accepted-in-range c e h = invariant-in-range e.net (accepted-invariant c e h)
+
+  pub accepted-sized : (c : Call) (e : Effect) → step c net ≡ accepted e → Sized e.net
+  accepted-sized c e h = let inv = accepted-invariant c e h in record {
+    labels_length = inv.formed.tables.labels_length;
+    rows-length = inv.formed.tables.rows-length;
+    records-length = inv.formed.records.records-length;
+    sought-length = inv.formed.sought.sought-length;
+  }

@@ -7,5 +7,5 @@ ghost use Rattle.model.specs.Walks.{LoopFree};
 pub fn most_hops(n: u8) -> u8
     ensures { (result ≡ n - 1) × LoopFree }
 {
-    if n == 0 { 0 } else { n - 1 }
+    n.saturating_sub(1)
 }

@@ -1,10 +1,12 @@
 -- Laws of the packets in the air read as a list.
-use Prim.Native.Nat.{ℕ, ◌+◌, ◌≤◌, ◌<◌}
+use Prim.Native.Nat.{ℕ, suc, ◌+◌, ◌-◌, ◌≤◌, ◌<◌}
 use mathlib.Core.Path.{◌≡◌, sym, ap, ap₂, ◌∙◌}
 use mathlib.Core.Bool.{Bool, not}
 use mathlib.Core.List.{List, [], ◌∷◌, ◌++◌}
-use lib.ListN.{length, get_or, set, length-set}
-use lib.Seq.{get_or-set_same, get_or-set_other}
+use lib.ListN.{length, get_or, set, take, drop, length-set}
+use lib.Seq.{slice, get_or-set_same, get_or-set_other}
+use Rattle.std.specs.List.{copy_within}
+use Rattle.std.proofs.lemmas.List.{drop-take}
 use native.Mathlib.Numerals.{add-one}
 use native.Mathlib.Omega.{arith}
 use Rattle.base.specs.Lists.{remove_at, removed}
@@ -39,6 +41,15 @@ module _ (packets : List Packet) (count : ℕ) where
       ∙ ap₂ (λ (x : List model.Packet) (y : model.Packet). x ++ (y ∷ []))
       (tabulate-same count _ (packet_in packets) (λ k m. ap packet_of (get_or-set_other packets count k p zero_packet (λ e. omega arith))))
       (ap packet_of (get_or-set_same packets count p zero_packet (omega (arith, long))))
+
+-- A copy of the elements after k, one place down.
+pub copied_down : {A : Type 0} (k last : ℕ) (l : List A) → k ≤ last → copy_within l (k + 1) (last + 1) k ≡ removed k last l
+unfolding removed
+copied_down {A} k last l h =
+    let e : k + (suc last - suc k) ≡ last = omega arith in
+    let end : suc last ≡ suc k + (suc last - suc k) = omega arith in
+    let part : slice (suc k) (suc last) l ≡ take (suc last - suc k) (drop (suc k) l) = ap (λ m. drop (suc k) (take m l)) end ∙ drop-take (suc k) (suc last - suc k) l in
+    rw (add-one k, add-one last, e) (ap (λ (z : List A). take k l ++ z ++ drop last l) (sym part))
 
 -- The packets after k moved up.
 pub packets-removed : (packets : List Packet) (last k : ℕ) → k ≤ last → last < length packets

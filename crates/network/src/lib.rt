@@ -6,7 +6,6 @@ use rows::Row;
 use validation::AIR_LIMIT;
 
 pub mod links;
-pub mod masks;
 pub mod opening;
 pub mod packets;
 pub mod places;
@@ -27,7 +26,8 @@ pub struct Record {
     pub passed: bool,
 }
 
-// A packet, with the serial number of its sending. Kind 1 is a request, 2 a reply (no mask and no reset bit), 3 an error (the mask alone).
+// A packet, with the serial number of its sending. Kind 1 is a request, 2 a reply (no mask and no reset bit), 3 an error (the mask alone); a number,
+// since memory that no call made may have any, which `in_range` finds.
 #[derive(Clone, Copy)]
 pub struct Packet {
     pub label: Label,
@@ -42,7 +42,7 @@ pub struct Packet {
     pub reset: bool,
 }
 
-// The packets in the air, in the order they were sent.
+// The packets in the air, in the order they were sent: the first `count`. There is no heap, so that the places and the count stand side by side.
 #[derive(Clone, Copy)]
 pub struct Air {
     pub packets: [Packet; AIR_LIMIT as usize],
@@ -50,7 +50,8 @@ pub struct Air {
 }
 
 // The memory. What station i holds for station t stands at 16·i + t, and the link of two stations where the lower one holds the other. A
-// station's sendings are numbered; serials[i] is the number of its last. At most `limit` packets are in the air after a call.
+// station's sendings are numbered; serials[i] is the number of its last. At most `limit` packets are in the air after a call. A table for each field, as
+// 01 names s, m and d. No type says that memory is in range: a call is made on any, and `in_range` is its first test.
 #[derive(Clone, Copy)]
 pub struct Memory {
     pub s: [u64; 256],

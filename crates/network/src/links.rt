@@ -1,4 +1,4 @@
-// Links.
+// Links. The bounds of n and a stand in each contract: the pages name these functions with these parameters.
 ghost use Rattle.std.specs.Prelude.{◌≡◌, not, ◌&&◌, ◌<◌, ◌≤◌, eqb, length};
 ghost use Rattle.base.specs.Lists.{below};
 ghost use Rattle.model.specs.Memory.{link_in};
@@ -17,9 +17,7 @@ pub fn link_up(links: [bool; 256], a: u8, b: u8) -> bool
     requires { (a < 16) × (b < 16) }
     ensures { result ≡ link_in links a b }
 {
-    let at = pair_place(a, b);
-    let up = links[at];
-    joined(a, b, up)
+    joined(a, b, links[pair_place(a, b)])
 }
 
 // The number of a's up neighbours.
@@ -27,15 +25,5 @@ pub fn neighbour_count(links: [bool; 256], n: u8, a: u8) -> u8
     requires { (n ≤ 16) × (a < 16) }
     ensures { result ≡ length (below n (link_in links a)) }
 {
-    let mut count = 0;
-    let mut b = 0;
-    while b < n {
-        let at = pair_place(a, b);
-        let up = links[at];
-        if joined(a, b, up) {
-            count += 1;
-        }
-        b += 1;
-    }
-    count
+    (0..n).filter(|&b| link_up(links, a, b)).count() as u8
 }

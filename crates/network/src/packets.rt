@@ -1,17 +1,36 @@
-// The packets in the air: sending, removing and dropping them.
+// The packets in the air: sending, removing and dropping them. The packets and their count are two parameters each time, as n and a are with the
+// links: the pages name these functions with these parameters.
 ghost use Rattle.std.specs.Prelude.{◌≡◌, ◌++◌, map, ◌+◌, ◌<◌, ◌≤◌, length, set};
 ghost use Rattle.base.specs.Lists.{below, removed};
 ghost use Rattle.model.specs.Memory.{link_in, request, reply, error, air_limit};
 ghost use Rattle.model.specs.Calls.{packet, between, drop_between};
-ghost use Rattle.network.specs.View.{body_of, packet_of, packets_of, numbered};
+ghost use Rattle.network.specs.View.{zero_packet, body_of, packet_of, packets_of, numbered};
 
-use crate::links::joined;
-use crate::places::pair_place;
+use crate::links::link_up;
 use crate::{Packet, RequestNumber};
 use label::{Label, label_of};
 use validation::AIR_LIMIT;
 
+// A packet of no kind, from nobody to nobody, not numbered.
+pub fn blank() -> Packet
+    ensures { result ≡ zero_packet }
+{
+    Packet {
+        label: label_of(0, 0, 0),
+        serial: 0,
+        number: RequestNumber(0),
+        mask: 0,
+        kind: 0,
+        sender: 0,
+        receiver: 0,
+        source: 0,
+        destination: 0,
+        reset: false,
+    }
+}
+
 // A request, from nobody to nobody, not numbered.
+#[tactic(auto, unfolding(crate::specs::View::body_of, crate::specs::View::request_of))]
 pub fn request(
     source: u8,
     number: RequestNumber,
@@ -22,52 +41,41 @@ pub fn request(
     ensures { body_of result ≡ request (record { source = source; number = number.0; destination = destination; label = label; reset = reset }) }
 {
     Packet {
-        label: label,
-        serial: 0,
-        number: number,
-        mask: 0,
         kind: 1,
-        sender: 0,
-        receiver: 0,
-        source: source,
-        destination: destination,
-        reset: reset,
+        label,
+        number,
+        source,
+        destination,
+        reset,
+        ..blank()
     }
 }
 
 // A reply, from nobody to nobody, not numbered.
+#[tactic(auto, unfolding(crate::specs::View::body_of, crate::specs::View::reply_of))]
 pub fn reply(source: u8, number: RequestNumber, destination: u8, label: Label) -> Packet
     ensures { body_of result ≡ reply (record { source = source; number = number.0; destination = destination; label = label }) }
 {
     Packet {
-        label: label,
-        serial: 0,
-        number: number,
-        mask: 0,
         kind: 2,
-        sender: 0,
-        receiver: 0,
-        source: source,
-        destination: destination,
-        reset: false,
+        label,
+        number,
+        source,
+        destination,
+        ..blank()
     }
 }
 
 // An error of this serial number, from nobody to nobody.
+#[tactic(auto, unfolding(crate::specs::View::body_of))]
 pub fn error(mask: u16, serial: u64) -> Packet
     ensures { (body_of result ≡ error mask) × (result.serial ≡ serial) }
 {
     Packet {
-        label: label_of(0, 0, 0),
-        serial: serial,
-        number: RequestNumber(0),
-        mask: mask,
         kind: 3,
-        sender: 0,
-        receiver: 0,
-        source: 0,
-        destination: 0,
-        reset: false,
+        mask,
+        serial,
+        ..blank()
     }
 }
 
@@ -75,22 +83,22 @@ pub fn error(mask: u16, serial: u64) -> Packet
 pub fn numbered(p: Packet, serial: u64) -> Packet
     ensures { result ≡ numbered p serial }
 {
-    let mut next = p;
-    next.serial = serial;
-    next
+    Packet { serial, ..p }
 }
 
 // The packet from a to b.
+#[tactic(auto, unfolding(crate::specs::View::packet_of, crate::specs::View::body_of, crate::specs::View::request_of, crate::specs::View::reply_of))]
 pub fn addressed(p: Packet, a: u8, b: u8) -> Packet
     ensures { packet_of result ≡ packet a b (body_of p) p.serial }
 {
-    let mut next = p;
-    next.sender = a;
-    next.receiver = b;
-    next
+    Packet {
+        sender: a,
+        receiver: b,
+        ..p
+    }
 }
 
-// Packet p stored at place `count` of the lent packets.
+// Packet p stored at place `count` of the lent packets. Fixed form: `append` and `remove` by value are thin over a lent slice.
 fn append_to(packets: &mut [Packet], count: usize, p: Packet)
     requires { count < length packets.old }
     ensures { packets.new ≡ set packets.old count p }
@@ -103,11 +111,7 @@ fn remove_from(packets: &mut [Packet], last: usize, k: usize)
     requires { (k ≤ last) × (last < length packets.old) }
     ensures { packets.new ≡ removed k last packets.old }
 {
-    let mut i = k;
-    while i < last {
-        packets[i] = packets[i + 1];
-        i += 1;
-    }
+    packets.copy_within(k + 1..last + 1, k);
 }
 
 // The packets with p at place `count`.
@@ -152,12 +156,11 @@ pub fn replace(
 }
 
 // Whether p is under way between a and b.
+#[tactic(auto, unfolding(model::specs::Calls::between, crate::specs::View::packet_of))]
 fn is_between(p: Packet, a: u8, b: u8) -> bool
     ensures { result ≡ between a b (packet_of p) }
 {
-    let sender = p.sender;
-    let receiver = p.receiver;
-    (sender == a) & (receiver == b) | (sender == b) & (receiver == a)
+    (p.sender == a) & (p.receiver == b) | (p.sender == b) & (p.receiver == a)
 }
 
 // How many of the first `count` packets are not between a and b.
@@ -165,16 +168,10 @@ pub fn apart_count(packets: [Packet; AIR_LIMIT as usize], count: u8, a: u8, b: u
     requires { count ≤ air_limit }
     ensures { result ≡ length (drop_between a b (packets_of packets count)) }
 {
-    let mut left = 0;
-    let mut k = 0;
-    while k < count {
-        let p = packets[k as usize];
-        if !is_between(p, a, b) {
-            left += 1;
-        }
-        k += 1;
-    }
-    left
+    packets[..count as usize]
+        .iter()
+        .filter(|p| !is_between(**p, a, b))
+        .count() as u8
 }
 
 // The first `count` packets without those between a and b, the others in their order.
@@ -189,14 +186,12 @@ pub fn without_between(
 {
     let mut next = packets;
     let mut left: u8 = 0;
-    let mut k = 0;
-    while k < count {
+    for k in 0..count {
         let p = packets[k as usize];
         if !is_between(p, a, b) {
             next[left as usize] = p;
             left += 1;
         }
-        k += 1;
     }
     next
 }
@@ -215,16 +210,11 @@ pub fn broadcast(
     ensures { packets_of result (count + length (below n (link_in links a))) ≡ packets_of packets count ++ map (λ b. packet a b (body_of p) p.serial) (below n (link_in links a)) }
 {
     let mut end = count;
-    let mut b = 0;
-    while b < n {
-        let pair = pair_place(a, b);
-        let up = links[pair];
-        if joined(a, b, up) {
-            let at = end as usize;
-            packets[at] = addressed(p, a, b);
+    for b in 0..n {
+        if link_up(links, a, b) {
+            packets[end as usize] = addressed(p, a, b);
             end += 1;
         }
-        b += 1;
     }
     packets
 }

@@ -1,2 +1,1 @@
 pub mod ShownLaws
-pub mod GatherLaws

@@ -1,7 +1,6 @@
 -- The text of a rehearsal, as the code puts it.
 use Prim.Native.Nat.{ℕ, ◌+◌, ◌*◌, ◌≤◌, ◌<◌, min}
 use mathlib.Core.Path.{◌≡◌, refl, sym, ap, subst, ◌∙◌}
-use mathlib.Core.Logic.{◌≢◌}
 use mathlib.Core.Bool.{Bool, true, false}
 use mathlib.Core.List.{List, [], ◌++◌, flat_map}
 use lib.ListN.{length, get_or, take, replicate, length-replicate}
@@ -13,8 +12,8 @@ use Rattle.base.specs.Lists.{tabulate}
 use Rattle.base.specs.Results.{Result, refused, accepted, mapped, refuse◌when◌otherwise◌, ◌and_then◌}
 use Rattle.base.proofs.Lists.{flat-one}
 use Rattle.base.proofs.Loops.{tabulate-more}
-use Rattle.base.proofs.Results.{refuse-holds, refuse-passes, Satisfies, refuses, accepts, satisfies-refuse}
-use Rattle.codec.specs.Bytes.{over, put_into}
+use Rattle.base.proofs.Results.{refuse-holds, refuse-passes}
+use Rattle.codec.specs.Bytes.{put_into}
 use Rattle.codec.proofs.ByteLaws.{over_first}
 use Rattle.model.specs.Memory.{Network, Sized, fresh, air_limit, memory_in_range}
 use Rattle.model.specs.Calls.{Effect, step, run_by, not_opening, not_limit}
@@ -34,13 +33,18 @@ use Rattle.steps.specs.Ran.{Ran}
 use Rattle.steps.proofs.RunLaws.{ran-after}
 use Rattle.script.specs.declared.Found.{Found}
 use Rattle.script.specs.Script.{Script, script, decoded, reading}
+use Rattle.std.specs.Prelude.{Ok, Err}
+use Rattle.validation.specs.declared.Refusal.{Refusal}
+use Rattle.validation.specs.Refusal.{number as number_of}
+use Rattle.telling.specs.declared.tally.Tally.{Tally}
 use Rattle.script.specs.ScriptContracts.{found_of, in_arrays, Reads}
-use Rattle.script.proofs.ScriptLaws.{Positive, Parsed, operands-length, reading-ends, reading-whole, found-refused, reads-script}
+use Rattle.script.proofs.ScriptLaws.{operands-length, reading-whole, unmapped-refused, unmapped-accepted, reads-script}
 use Rattle.script.proofs.RoundTrip.{read-opens, too_long}
 use Rattle.printout.specs.declared.rehearsal.Rehearsed.{Rehearsed}
+use Rattle.printout.specs.declared.rehearsal.Printed.{Printed}
 use Rattle.text.specs.Text.{refusal_text, event_text, label_text, rehearsal_text}
 use Rattle.text.specs.TextContracts.{PutsAt}
-use Rattle.printout.specs.Printed.{Rehearsal, rehearsal_of, printout_room, rehearsing, rehearsed, rehearsed_of, Rehearses, text_of, programs, PrintsResult, Prints}
+use Rattle.printout.specs.Printed.{Rehearsal, rehearsal_of, printout_room, rehearsing, rehearsed_of, Rehearses, text_of, programs, PrintsResult, Prints}
 use Rattle.printout.specs.Printed.{RoutesLoopFree, TallyFits}
 use Rattle.text.proofs.TextLaws.{puts-over}
 
@@ -103,7 +107,7 @@ pub record Scripted (bytes kinds operands : List ℕ) (r : Found) : Type 0 where
   pub reads : reading bytes event_limit (2 * event_limit) ≡ accepted (in_arrays r kinds operands)
 
 -- A script read into arrays with room for every script, of zeros.
-module _ (bytes kinds operands : List ℕ) (r : Found) where
+module _ (bytes kinds operands : List ℕ) where
   abbrev zero_kinds : List ℕ
   zero_kinds = replicate event_limit 0
 
@@ -116,45 +120,37 @@ module _ (bytes kinds operands : List ℕ) (r : Found) where
   roomy : reading bytes event_limit (2 * event_limit) ≡ result
   roomy = sym (λ i. reading bytes (length-replicate {A = ℕ} event_limit 0 i) (length-replicate {A = ℕ} (2 * event_limit) 0 i))
 
-  module _ (h : Reads found_of result zero_kinds zero_operands r kinds operands) where
-    pub not-read : r.answer ≢ 0 → reading bytes event_limit (2 * event_limit) ≡ refused r.answer
-    unfolding Reads
-    not-read z = roomy ∙ found-refused result r h.0 z
+  abbrev AreRead : Result Found → Type 0
+  AreRead told = Reads (mapped found_of) result zero_kinds zero_operands told kinds operands
 
-    pub scripted : r.answer ≡ 0 → Scripted bytes kinds operands r
-    unfolding found_of
-    scripted z =
-        let w = reads-script bytes zero_kinds zero_operands r kinds operands h z in
-        let s = decoded bytes in
-        let is = w.told.is_found in
-        let n : r.n ≡ s.n = ap (λ (x : Found). x.n) is in
-        let start : r.start ≡ s.start = ap (λ (x : Found). x.start) is in
-        let k : r.events ≡ length s.kinds = ap (λ (x : Found). x.events) is in
-        let o : 2 * r.events ≡ length s.operands = ap (λ (e : ℕ). 2 * e) w.told.count ∙ sym (operands-length bytes w.told.tested.counted) in
-        let first = over_first s.kinds zero_kinds kinds r.events w.kinds-after k in
-        let second = over_first s.operands zero_operands operands (2 * r.events) w.operands-after o in
-        let same : in_arrays r kinds operands ≡ s = λ i. script (n i) (start i) (first.1 i) (second.1 i) in
-        record {
-          opens = (λ i. not_opening (n i) (start i)) ∙ w.told.tested.opens;
-          few = w.told.few;
-          kinds-long = (first.0, ap length first.1 ∙ sym k);
-          operands-long = (second.0, ap length second.1 ∙ sym o);
-          reads = roomy ∙ w.ended ∙ ap accepted (sym same);
-        }
+  pub not-read : {number : ℕ} → AreRead (refused number) → reading bytes event_limit (2 * event_limit) ≡ refused number
+  unfolding Reads
+  not-read h = roomy ∙ unmapped-refused found_of result h.0
+
+  pub scripted : {r : Found} → AreRead (accepted r) → Scripted bytes kinds operands r
+  scripted {r} h =
+      let w = reads-script bytes zero_kinds zero_operands r kinds operands h in
+      let s = decoded bytes in
+      let is = w.told.is_found in
+      let n : r.n ≡ s.n = ap (λ (x : Found). x.n) is in
+      let start : r.start ≡ s.start = ap (λ (x : Found). x.start) is in
+      let k : r.events ≡ length s.kinds = ap (λ (x : Found). x.events) is in
+      let o : 2 * r.events ≡ length s.operands = ap (λ (e : ℕ). 2 * e) w.told.count ∙ sym (operands-length bytes w.told.tested.counted) in
+      let first = over_first s.kinds zero_kinds kinds r.events w.kinds-after k in
+      let second = over_first s.operands zero_operands operands (2 * r.events) w.operands-after o in
+      let same : in_arrays r kinds operands ≡ s = λ i. script (n i) (start i) (first.1 i) (second.1 i) in
+      record {
+        opens = (λ i. not_opening (n i) (start i)) ∙ w.told.tested.opens;
+        few = w.told.few;
+        kinds-long = (first.0, ap length first.1 ∙ sym k);
+        operands-long = (second.0, ap length second.1 ∙ sym o);
+        reads = roomy ∙ w.ended ∙ ap accepted (sym same);
+      }
 
 -- A rehearsal, by its tests.
 module _ (bytes : List ℕ) (limit room : ℕ) where
   abbrev rest : Script → Result Rehearsal
   rest s = refuse 14 when not_limit limit otherwise refuse 12 when ltb room printout_room otherwise accepted (rehearsal_of limit s)
-
-  -- No number that turns it down is 0.
-  pub rehearsing-ends : Satisfies Positive (λ v. Unit {0}) (rehearsing bytes limit room)
-  unfolding rehearsing ◌and_then◌
-  rehearsing-ends = go (reading bytes event_limit (2 * event_limit)) (reading-ends bytes event_limit (2 * event_limit))
-    where
-      go : (z : Result Script) → Satisfies Positive (Parsed bytes) z → Satisfies Positive (λ v. Unit {0}) (z and_then rest)
-      go (refused number) (refuses h) = refuses h
-      go (accepted s) (accepts h) = satisfies-refuse 14 _ _ (omega arith) (λ e. satisfies-refuse 12 _ _ (omega arith) (λ q. accepts tt))
 
   pub rehearsing-unread : (number : ℕ) → reading bytes event_limit (2 * event_limit) ≡ refused number → rehearsing bytes limit room ≡ refused number
   unfolding rehearsing ◌and_then◌
@@ -189,54 +185,55 @@ module _ (bytes : List ℕ) (limit : ℕ) where
       let opens = read-opens bytes s event_limit (2 * event_limit) e in
       limit-from-highest _ (fresh-sized s.n s.start limit opens k) (fresh-in-range s.n s.start limit opens k) s.kinds s.operands
 
--- What a rehearsal under a limit gave.
-module _ (bytes : List ℕ) (limit : ℕ) (out : List ℕ) {r : Rehearsed} where
-  pub rehearses-refused : (number : ℕ) → rehearsing bytes limit (length out) ≡ refused number → r ≡ rehearsed 0 number (tally_of []) → Rehearses bytes limit out r out
-  unfolding Rehearses rehearsed_of mapped put_into
-  rehearses-refused number e is = (rw e is, rw e)
+-- Both hold of any script and limit.
+pub ruleset whatever_events = (routes-loop-free, tally-fits)
 
-  pub rehearses-accepted : (v : Rehearsal) {out' : List ℕ} → rehearsing bytes limit (length out) ≡ accepted v → PutsAt out 0 v.text r.length out'
-      → r.length ≤ length out → r.answer ≡ 0 → tally_in r.tally ≡ v.tally → Rehearses bytes limit out r out'
-  unfolding Rehearses rehearsed_of mapped put_into
-  rehearses-accepted v e p h zero t =
+-- What a rehearsal under a limit gave.
+module _ (bytes : List ℕ) (limit : ℕ) (out : List ℕ) where
+  pub rehearses-refused : (why : Refusal) → rehearsing bytes limit (length out) ≡ refused (number_of why) → Rehearses bytes limit out (Err why) out
+  unfolding Rehearses mapped put_into
+  rehearses-refused why e = (rw e, rw e)
+
+  pub rehearses-accepted : {r : Rehearsed} (v : Rehearsal) {out' : List ℕ} → rehearsing bytes limit (length out) ≡ accepted v → PutsAt out 0 v.text r.length out'
+      → r.length ≤ length out → tally_in r.tally ≡ v.tally → Rehearses bytes limit out (Ok r) out'
+  unfolding Rehearses mapped put_into
+  rehearses-accepted {r} v e p h t =
       let put = puts-over p h in
-      let same : r ≡ rehearsed (length v.text) 0 v.tally = λ i. rehearsed (put.1 i) (zero i) (t i) in
-      (rw e same, rw e put.0)
+      let same : r ≡ rehearsed_of v = λ i. record { length = put.1 i; tally = record { calls = (t i).calls; highest = (t i).highest } } in
+      (rw e (ap accepted same), rw e put.0)
 
 -- What the program prints, from a rehearsal under the limit 128 in an array with room for every printout.
-module _ (bytes out : List ℕ) (r : Rehearsed) (out' : List ℕ) (h : Rehearses bytes air_limit out r out') (roomy : length out ≡ printout_room) where
+module _ (bytes out : List ℕ) (roomy : length out ≡ printout_room) where
   ended : rehearsing bytes air_limit (length out) ≡ programs bytes
   unfolding programs
   ended = ap (rehearsing bytes air_limit) roomy
 
-  pub prints-accepted : r.answer ≡ 0 → Prints bytes out r out'
-  unfolding Rehearses rehearsed_of mapped put_into text_of
-  prints-accepted zero = subst (λ z. PrintsResult z out r out') ended (go (rehearsing bytes air_limit (length out)) (rehearsing-ends bytes air_limit (length out)) h.0 h.1)
-    where
-      go : (z : Result Rehearsal) → Satisfies Positive (λ v. Unit {0}) z → r ≡ rehearsed_of z → out' ≡ put_into (mapped (λ v. v.text) z) out → PrintsResult z out r out'
-      go (refused number) (refuses some) is put = absurd (omega (arith, some, zero, ap (λ (x : Rehearsed). x.answer) is))
-      go (accepted v) t is put = record { text = put; text-length = ap (λ (x : Rehearsed). x.length) is; answered = ap (λ (x : Rehearsed). x.answer) is; tallied = ap (λ (x : Rehearsed). x.tally) is }
+  pub prints-accepted : {r : Rehearsed} {out' : List ℕ} → Rehearses bytes air_limit out (Ok r) out'
+      → Prints bytes out (record { length = r.length; answer = 0; tally = r.tally }) out'
+  unfolding Rehearses mapped put_into text_of
+  prints-accepted {r} {out'} h =
+      let (v, is, told) = unmapped-accepted rehearsed_of (rehearsing bytes air_limit (length out)) h.0 in
+      subst (λ z. PrintsResult z out (record { length = r.length; answer = 0; tally = r.tally }) out') (sym is ∙ ended) (record {
+        text = h.1 ∙ ap (λ z. put_into (mapped (λ v. v.text) z) out) is;
+        text-length = ap (λ (x : Rehearsed). x.length) told;
+        answered = refl;
+        tallied = ap (λ (x : Rehearsed). tally_in x.tally) told;
+      })
 
-  pub prints-refused : r.answer ≢ 0 → {end : ℕ} {out'' : List ℕ} → PutsAt out' 0 (refusal_text r.answer) end out'' → end ≤ length out
-      → Prints bytes out (record { length = end; answer = r.answer; tally = r.tally }) out''
-  unfolding Rehearses rehearsed_of mapped put_into text_of
-  prints-refused some {end} {out''} p l =
-      subst (λ z. PrintsResult z out told out'') ended (go (rehearsing bytes air_limit (length out)) h.0 h.1)
-    where
-      told : Rehearsed
-      told = record { length = end; answer = r.answer; tally = r.tally }
-
-      go : (z : Result Rehearsal) → r ≡ rehearsed_of z → out' ≡ put_into (mapped (λ v. v.text) z) out → PrintsResult z out told out''
-      go (refused number) is put =
-          let same = ap (λ (x : Rehearsed). x.answer) is in
-          let text = puts-over (subst (λ (o : List ℕ). PutsAt o 0 (refusal_text r.answer) end out'') put p) l in
-          record {
-            text = text.0 ∙ ap (λ (k : ℕ). over (refusal_text k) out) same;
-            text-length = text.1 ∙ ap (λ (k : ℕ). length (refusal_text k)) same;
-            answered = same;
-            tallied = ap (λ (x : Rehearsed). x.tally) is;
-          }
-      go (accepted v) is put = absurd (some (ap (λ (x : Rehearsed). x.answer) is))
+  pub prints-refused : (why : Refusal) {out' : List ℕ} → Rehearses bytes air_limit out (Err why) out'
+      → {end : ℕ} {tally : Tally} {out'' : List ℕ} → PutsAt out' 0 (refusal_text (number_of why)) end out'' → end ≤ length out → tally_in tally ≡ tally_of []
+      → Prints bytes out (record { length = end; answer = number_of why; tally = tally }) out''
+  unfolding Rehearses mapped put_into text_of
+  prints-refused why {out'} h {end} {tally} {out''} p l t =
+      let is = unmapped-refused rehearsed_of (rehearsing bytes air_limit (length out)) h.0 in
+      let kept : out' ≡ out = h.1 ∙ ap (λ z. put_into (mapped (λ v. v.text) z) out) is in
+      let text = puts-over (subst (λ (o : List ℕ). PutsAt o 0 (refusal_text (number_of why)) end out'') kept p) l in
+      subst (λ z. PrintsResult z out (record { length = end; answer = number_of why; tally = tally }) out'') (sym is ∙ ended) (record {
+        text = text.0;
+        text-length = text.1;
+        answered = refl;
+        tallied = t;
+      })
 
 -- A text within its array is counted.
 pub counted : (end : ℕ) (out : List ℕ) → end ≤ length out → (end ≤ length out) × (end ≡ length (take end out))
@@ -255,18 +252,18 @@ programs-cut room whole h = go (leb (length whole) room) refl
         ap (λ (z : Result Script). z and_then rest whole air_limit printout_room)
         (reading-whole (take room whole) ∙ too_long (take room whole) (omega (arith, cut, h)) ∙ sym (too_long whole (omega (arith, h, long))) ∙ sym (reading-whole whole))
 
--- The bytes that stand in an array of which some are counted, or more than there are.
-pub take_min : (count : ℕ) (input : List ℕ) → take (min count (length input)) input ≡ take count input
-take_min count input = go (leb count (length input)) refl
+-- The bytes that stand in an array of k places, of which some are counted, or more than there are.
+pub take_min : (count k : ℕ) (input : List ℕ) → length input ≤ k → take (min count k) input ≡ take count input
+take_min count k input h = go (leb count k) refl
   where
-    go : (t : Bool) → leb count (length input) ≡ t → take (min count (length input)) input ≡ take count input
-    go true e = let m : min count (length input) ≡ count = omega (arith, leb-true count (length input) e) in ap (λ (k : ℕ). take k input) m
+    go : (t : Bool) → leb count k ≡ t → take (min count k) input ≡ take count input
+    go true e = let m : min count k ≡ count = omega (arith, leb-true count k e) in ap (λ (j : ℕ). take j input) m
     go false e =
-        let past = leb-false count (length input) e in
-        let m : min count (length input) ≡ length input = omega (arith, past) in
-        ap (λ (k : ℕ). take k input) m ∙ take_all (length input) input (omega arith) ∙ sym (take_all count input (omega (arith, past)))
+        let past = leb-false count k e in
+        let m : min count k ≡ k = omega (arith, past) in
+        ap (λ (j : ℕ). take j input) m ∙ take_all k input h ∙ sym (take_all count input (omega (arith, past, h)))
 
 -- What the first bytes of an input print is what the whole of it prints.
-pub prints-whole : (room count : ℕ) (input whole out : List ℕ) (r : Rehearsed) (out' : List ℕ) → 11 + 3 * event_limit < room
+pub prints-whole : (room count : ℕ) (input whole out : List ℕ) (r : Printed) (out' : List ℕ) → 11 + 3 * event_limit < room
     → take count input ≡ take room whole → Prints (take count input) out r out' → Prints whole out r out'
 prints-whole room count input whole out r out' h e p = subst (λ z. PrintsResult z out r out') (ap programs e ∙ programs-cut room whole h) p

@@ -1,5 +1,5 @@
 -- What a rehearsal gives of a script's bytes, and what the program prints.
-use Rattle.std.specs.Prelude.{ℕ, ◌*◌, ◌<◌, ◌≡◌, ◌≢◌, false, List, [], length, ltb}
+use Rattle.std.specs.Prelude.{ℕ, ◌*◌, ◌<◌, ◌≡◌, ◌≢◌, false, List, [], length, ltb, Result as Returned}
 use Rattle.base.specs.Results.{Result, refused, accepted, mapped, refuse◌when◌otherwise◌, ◌and_then◌}
 use Rattle.model.specs.Memory.{fresh, air_limit}
 use Rattle.model.specs.Calls.{not_limit, trace}
@@ -9,7 +9,11 @@ use Rattle.model.specs.Printout.{event_lines}
 use Rattle.model.specs.Tally.{Tally, tally_of, HighestFits}
 use Rattle.codec.specs.Bytes.{put_into, over}
 use Rattle.script.specs.Script.{Script, reading}
+use Rattle.validation.specs.Refusal.{outcome}
+use Rattle.telling.specs.Tallies.{tally_in}
+use Rattle.validation.specs.declared.Refusal.{Refusal}
 use Rattle.printout.specs.declared.rehearsal.Rehearsed.{Rehearsed}
+use Rattle.printout.specs.declared.rehearsal.Printed.{Printed}
 use Rattle.text.specs.Text.{refusal_text, rehearsal_text}
 
 -- "The tally is returned and not printed" (02, F-5): it stands beside the text.
@@ -35,19 +39,15 @@ rehearsing bytes limit room =
     refuse 12 when ltb room printout_room otherwise
     accepted (rehearsal_of limit s)
 
--- What is told of a rehearsal: the length of its text and its tally, or the number of the refusal.
-abbrev pub rehearsed : (length answer : ℕ) → Tally → Rehearsed
-rehearsed length answer t = record { length = length; answer = answer; tally = record { calls = t.calls; highest = t.highest } }
-
-unfoldable pub rehearsed_of : Result Rehearsal → Rehearsed
-rehearsed_of (refused number) = rehearsed 0 number (tally_of [])
-rehearsed_of (accepted v) = rehearsed (length v.text) 0 v.tally
+-- What is told of a rehearsal: the length of its text and its tally.
+abbrev pub rehearsed_of : Rehearsal → Rehearsed
+rehearsed_of v = record { length = length v.text; tally = record { calls = v.tally.calls; highest = v.tally.highest } }
 
 -- A rehearsal under a limit: its text stands at the start of the lent array, and the places past it are kept; all are where it is turned down.
-unfoldable pub Rehearses : (bytes : List ℕ) → (limit : ℕ) → (out : List ℕ) → Rehearsed → (out' : List ℕ) → Type 0
+unfoldable pub Rehearses : (bytes : List ℕ) → (limit : ℕ) → (out : List ℕ) → Returned Rehearsed Refusal → (out' : List ℕ) → Type 0
 Rehearses bytes limit out r out' =
     let result = rehearsing bytes limit (length out) in
-    (r ≡ rehearsed_of result) × (out' ≡ put_into (mapped (λ v. v.text) result) out)
+    (outcome r ≡ mapped rehearsed_of result) × (out' ≡ put_into (mapped (λ v. v.text) result) out)
 
 -- "The rehearsal program reads a script", "and the program runs with limit 128" (02, F-5): what it prints of these bytes. A script that is turned
 -- down has its text too, and the tally of no events.
@@ -61,15 +61,24 @@ programs bytes = rehearsing bytes air_limit printout_room
 unfoldable pub printed : List ℕ → List ℕ
 printed bytes = text_of (programs bytes)
 
+-- What it answers: 0, or the number of the refusal. And its tally.
+abbrev pub answer_of : Result Rehearsal → ℕ
+answer_of (refused number) = number
+answer_of (accepted v) = 0
+
+abbrev pub tally_told : Result Rehearsal → Tally
+tally_told (refused number) = tally_of []
+tally_told (accepted v) = v.tally
+
 -- The program's rehearsal, by how it ended: the text stands at the start of the lent array, the places past it are kept, and the result has its
 -- length; its answer and its tally are those of the rehearsal.
-pub record PrintsResult (result : Result Rehearsal) (out : List ℕ) (r : Rehearsed) (out' : List ℕ) : Type 0 where
+pub record PrintsResult (result : Result Rehearsal) (out : List ℕ) (r : Printed) (out' : List ℕ) : Type 0 where
   pub text : out' ≡ over (text_of result) out
   pub text-length : r.length ≡ length (text_of result)
-  pub answered : r.answer ≡ (rehearsed_of result).answer
-  pub tallied : r.tally ≡ (rehearsed_of result).tally
+  pub answered : r.answer ≡ answer_of result
+  pub tallied : tally_in r.tally ≡ tally_told result
 
-abbrev pub Prints : (bytes out : List ℕ) → (r : Rehearsed) → (out' : List ℕ) → Type 0
+abbrev pub Prints : (bytes out : List ℕ) → (r : Printed) → (out' : List ℕ) → Type 0
 Prints bytes out r out' = PrintsResult (programs bytes) out r out'
 
 -- Of a script's rehearsal under a limit: of the network that it opens, with its events.

@@ -1,22 +1,22 @@
 -- The tests of each event, by what is gathered for them.
 use Prim.Native.Nat.{ℕ, suc, ◌≤◌, ◌<◌}
-use mathlib.Core.Path.{◌≡◌, refl, sym, ap, ◌∙◌}
+use mathlib.Core.Path.{◌≡◌, refl, ap, ◌∙◌}
 use mathlib.Core.Logic.{◌≢◌}
 use mathlib.Core.Bool.{Bool, true, false, not, ◌&&◌, ◌||◌, and-true, and-false, or-false}
 use lib.Dec.{ltb, leb, eqb}
 use native.Mathlib.Omega.{arith}
-use borrow.Author.Tests.{lt-ltb, le-ltb, ltb-true, ltb-false, leb-false, eqb-true, eqb-false, not-true, not-false}
+use borrow.Author.Tests.{lt-ltb, ltb-false, leb-false, eqb-true, eqb-false, not-true, not-false}
 use Rattle.std.specs.Prelude.{if◌then◌else◌}
 use Rattle.base.specs.Numbers.{max_u32, max_u64}
 use Rattle.base.specs.Results.{refused}
-use Rattle.base.proofs.Booleans.{both, neither, passes, clash, choose}
+use Rattle.base.proofs.Booleans.{neither, choose}
 use Rattle.model.specs.Memory.{Network}
 use Rattle.model.specs.Calls.{Call, Up, Down, Solicit, GiveUp, Expire, Deliver, Lose, Duplicate, not_station, not_pair, not_packet, step, traced, trace}
 use Rattle.model.specs.Events.{not_event, call_of, calls, traces, no_event, event_of}
 use Rattle.model.proofs.Refusals.{up-2, up-3, down-2, down-3, solicit-2, solicit-4, solicit-8, give-up-2, give-up-5, expire-2}
 use Rattle.model.proofs.Refusals.{pair-tells, deliver-6, lose-6, duplicate-6}
 use Rattle.model.proofs.Tracing.{trace-no-pair}
-use Rattle.model.proofs.EventLaws.{event-kinds, event-trace, event-call, call-5, call-6, call-7, call-8}
+use Rattle.model.proofs.EventLaws.{event-trace, event-call, call-5, call-6, call-7, call-8}
 use Rattle.refusing.specs.Refusing.{Seen, Passes, Tests, sending_refusal}
 
 -- What the tests of an event say.
@@ -132,59 +132,32 @@ module _ (kind a b : ℕ) (event : not_event kind b ≡ false) where
   pub call-tests : (net : Network) {c : Call} {r x : ℕ} → kind ≢ 9 → call_of kind a b ≡ c → r ≡ x → Tests net (calls c) x → Tests net (event_of kind a b) r
   call-tests net h e k t = rw (event-call kind a b event h, e, k) t
 
-  -- What is left past 1 to 4 and 6 to 8.
-  five : 4 < kind → ltb 5 kind && ltb kind 9 ≡ false → kind ≢ 9 → kind ≡ 5
-  five h k nine = go (ltb 5 kind) refl
-    where
-      go : (x : Bool) → ltb 5 kind ≡ x → kind ≡ 5
-      go true p = let w = event-kinds kind a b event in clash (passes p (lt-ltb kind 9 (omega (arith, nine)))) k
-      go false p = omega (arith, ltb-false 5 kind p)
-
   module _ {net : Network} {n count last : ℕ} {linked active : Bool} (seen : Seen net kind a b n count linked active last) (r : ℕ) where
-    pub packet-event-tests : ltb 5 kind && ltb kind 9 ≡ true → r ≡ (if leb count a then 6 else 0) → Tests net (event_of kind a b) r
+    pub packet-event-tests : 5 < kind → kind < 9 → r ≡ (if leb count a then 6 else 0) → Tests net (event_of kind a b) r
     unfolding Passes
-    packet-event-tests h e = go (eqb kind 6) refl (eqb kind 7) refl
+    packet-event-tests low high e = go (eqb kind 6) refl (eqb kind 7) refl
       where
-        below : (5 < kind) × (kind < 9)
-        below = let w = both (ltb 5 kind) (ltb kind 9) h in (ltb-true 5 kind w.0, ltb-true kind 9 w.1)
-
         of-packet : (c : Call) → call_of kind a b ≡ c → (not_packet net a ≡ true → step c net ≡ refused 6) → (not_packet net a ≡ false → Passes c net)
             → Tests net (event_of kind a b) r
-        of-packet c k bad good = call-tests net (λ nine. omega (arith, below)) k e (packet-tests seen c bad good)
+        of-packet c k bad good = call-tests net (λ nine. omega arith) k e (packet-tests seen c bad good)
 
         go : (x : Bool) → eqb kind 6 ≡ x → (y : Bool) → eqb kind 7 ≡ y → Tests net (event_of kind a b) r
         go true p y q = of-packet (Deliver a) (call-6 kind a b (eqb-true kind 6 p)) (deliver-6 net seen.ranged a) (λ k. k)
         go false p true q = of-packet (Lose a) (call-7 kind a b (eqb-true kind 7 q)) (lose-6 net seen.ranged a) (λ k. k)
         go false p false q =
-            let eight : kind ≡ 8 = omega (arith, below, eqb-false kind 6 p, eqb-false kind 7 q) in
+            let eight : kind ≡ 8 = omega (arith, eqb-false kind 6 p, eqb-false kind 7 q) in
             of-packet (Duplicate a) (call-8 kind a b eight) (duplicate-6 net seen.ranged a) (λ k. k)
 
-    pub pair-event-tests : 4 < kind → ltb 5 kind && ltb kind 9 ≡ false → r ≡ (if leb n a || leb n b || eqb a b then 2 else 0) → Tests net (event_of kind a b) r
-    pair-event-tests h k e = go (eqb kind 9) refl
-      where
-        go : (x : Bool) → eqb kind 9 ≡ x → Tests net (event_of kind a b) r
-        go true p = rw (event-trace kind a b event (eqb-true kind 9 p), e) (trace-tests seen)
-        go false p = let nine = eqb-false kind 9 p in call-tests net nine (call-5 kind a b (five h k nine)) e (expire-tests seen)
+    pub expire-event-tests : kind ≡ 5 → r ≡ (if leb n a || leb n b || eqb a b then 2 else 0) → Tests net (event_of kind a b) r
+    expire-event-tests five e = call-tests net (λ nine. omega arith) (call-5 kind a b five) e (expire-tests seen)
 
--- 13 and 7, each by its test.
-module _ (limit air first sent second more : ℕ) where
-  abbrev pub used : Bool
-  used = leb max_u64 first && ltb 0 sent || leb max_u64 second && ltb 0 more
+    pub trace-event-tests : kind ≡ 9 → r ≡ (if leb n a || leb n b || eqb a b then 2 else 0) → Tests net (event_of kind a b) r
+    trace-event-tests nine e = rw (event-trace kind a b event nine, e) (trace-tests seen)
 
-  pub refused-13 : used ≡ true → 13 ≡ sending_refusal limit air first sent second more
-  unfolding sending_refusal
-  refused-13 u = sym (rw u)
+-- What 13 and 7 tell.
+abbrev used : (first sent second more : ℕ) → Bool
+used first sent second more = leb max_u64 first && ltb 0 sent || leb max_u64 second && ltb 0 more
 
-  module _ (u : used ≡ false) where
-    pub refused-7 : limit < air → 7 ≡ sending_refusal limit air first sent second more
-    unfolding sending_refusal
-    refused-7 l = sym (rw (u, lt-ltb limit air l))
-
-    pub refused-not : air ≤ limit → 0 ≡ sending_refusal limit air first sent second more
-    unfolding sending_refusal
-    refused-not l = sym (rw (u, le-ltb limit air l))
-
--- What they tell.
 module _ (limit air first sent second more : ℕ) {number : ℕ} (e : number ≡ sending_refusal limit air first sent second more) where
   pub both_send : number ≡ (if leb max_u64 first && ltb 0 sent || leb max_u64 second && ltb 0 more then 13 else if ltb limit air then 7 else 0)
   unfolding sending_refusal
@@ -196,10 +169,10 @@ module _ (limit air first sent second more : ℕ) {number : ℕ} (e : number ≡
 
   -- Where neither is given, a station that sends has a number left, and the packets are within the limit.
   module _ (zero : number ≡ 0) where
-    unused : used limit air first sent second more ≡ false
-    unused = go (used limit air first sent second more) refl both_send
+    unused : used first sent second more ≡ false
+    unused = go (used first sent second more) refl both_send
       where
-        go : (x : Bool) → used limit air first sent second more ≡ x → number ≡ (if x then 13 else if ltb limit air then 7 else 0) → used limit air first sent second more ≡ false
+        go : (x : Bool) → used first sent second more ≡ x → number ≡ (if x then 13 else if ltb limit air then 7 else 0) → used first sent second more ≡ false
         go true p q = absurd (omega (arith, zero))
         go false p q = p
 

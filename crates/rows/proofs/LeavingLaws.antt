@@ -1,15 +1,15 @@
 -- The entries that leave a row with a station.
-use Prim.Native.Nat.{ℕ, suc, ◌-◌, ◌≤◌, ◌<◌}
+use Prim.Native.Nat.{ℕ, suc, ◌-◌, ◌<◌}
 use mathlib.Core.Path.{◌≡◌, refl, sym, ap, ◌∙◌}
 use mathlib.Core.Bool.{Bool, true, false, not, ◌&&◌, ◌||◌}
 use mathlib.Core.List.{[], ◌∷◌}
 use lib.ListN.{length, get_or}
 use lib.Dec.{ltb, leb, eqb}
 use native.Mathlib.Omega.{arith}
-use borrow.Author.Tests.{ltb-true, ltb-false, le-ltb, leb-true, le-leb, eq-eqb, eqb-true, not-true}
-use Rattle.std.specs.Prelude.{if◌then◌else◌}
+use borrow.Author.Tests.{ltb-true, ltb-false, lt-ltb, le-ltb, leb-true, le-leb, eq-eqb, eqb-true, not-true}
+use Rattle.std.specs.Prelude.{Option, Some, None, if◌then◌else◌}
 use Rattle.base.specs.Lists.{some_in, keep, is_empty, index_of, distinct, remove_at}
-use Rattle.base.proofs.Booleans.{clash, both, neither, iff, choose}
+use Rattle.base.proofs.Booleans.{clash, both, iff, choose}
 use Rattle.base.proofs.Lists.{none_in, none-in-at, all-kept, empty-length, distinct-rest}
 use Rattle.base.proofs.Loops.{tabulate-length, tabulate-at, index-some, length-remove_at, some-map}
 use Rattle.model.specs.Memory as model
@@ -17,15 +17,9 @@ use Rattle.model.specs.Memory.{names, stations, without}
 use Rattle.model.specs.Calls.{empties, withdrawn}
 use Rattle.rows.specs.declared.Row.{Row}
 use Rattle.rows.specs.View.{entry_of, row_of}
-use Rattle.rows.specs.Search.{place_of}
+use Rattle.rows.specs.Search.{place_of, place_in, found_at}
 use Rattle.rows.specs.Leaving.{leaving}
-use Rattle.rows.proofs.SearchLaws.{not_found}
-
--- Where no entry passes, the place of the first is past them all.
-index-none : (f : model.Successor → Bool) (r : model.Row) → some_in f r ≡ false → index_of f r ≡ length r
-unfolding some_in index_of
-index-none f [] h = refl
-index-none f (e ∷ r) h = let w = neither (f e) (some_in f r) h in rw w.0 (ap suc (index-none f r w.1))
+use Rattle.rows.proofs.SearchLaws.{index_none, First, place-some, place-none, placed}
 
 -- Each entry that leaves names j. In a row that names a station once, one leaves at most.
 module _ (j : ℕ) (leaves : model.Successor → Bool) (naming : (e : model.Successor) → leaves e ≡ true → names j e ≡ true) where
@@ -40,7 +34,7 @@ module _ (j : ℕ) (leaves : model.Successor → Bool) (naming : (e : model.Succ
   none-leave r none = none_in leaves r (λ e m. stays e (none-in-at (names j) r none e m))
 
   all_stay : (r : model.Row) → some_in (names j) r ≡ false → index_of leaves r ≡ length r
-  all_stay r none = index-none leaves r (none-leave r none)
+  all_stay r none = index_none leaves r (none-leave r none)
 
   -- After an entry that names j no other does.
   no_other : (e : model.Successor) (r : model.Row) → distinct (stations (e ∷ r)) ≡ true → names j e ≡ true → some_in (names j) r ≡ false
@@ -50,8 +44,9 @@ module _ (j : ℕ) (leaves : model.Successor → Bool) (naming : (e : model.Succ
       sym (some-map (λ x. x.station) j r) ∙ rw same (not-true _ (both (not (some_in (eqb e.station) (stations r))) (distinct (stations r)) d).0)
 
   -- The place of the one that leaves, from that of the one that names j, and the test that this one has to pass.
-  pub leaving-none : (r : model.Row) → length r ≤ place_of j r → index_of leaves r ≡ length r
-  leaving-none r h = all_stay r (not_found j r h)
+  pub leaving-none : (r : model.Row) {o : Option ℕ} → o ≡ found_at j r → o ≡ None → None ≡ place_in leaves r
+  unfolding place_in
+  leaving-none r e h = rw (none-leave r (place-none (names j) r e h))
 
   leaving-found : (passes : model.Successor → Bool) → ((e : model.Successor) → names j e ≡ true → leaves e ≡ passes e) → (r : model.Row) (d : model.Successor)
       → distinct (stations r) ≡ true → place_of j r < length r → index_of leaves r ≡ (if passes (get_or r (place_of j r) d) then place_of j r else length r)
@@ -111,12 +106,20 @@ module _ (all : Bool) (j serial : ℕ) where
       go true = h
       go false = rw h (iff _ _ (λ q. le-leb _ _ (ltb-false serial e.serial (not-true _ q))) (λ q. rw (le-ltb serial e.serial (leb-true _ _ q))))
 
-  pub leaving-place : (row : Row) {place : ℕ} (b : Bool) → distinct (stations (row_of row)) ≡ true → place ≡ place_of j (row_of row) → place < row.count
-      → all || leb (entry_of row place).serial serial ≡ b → (if b then place else row.count) ≡ index_of (leaving all j serial) (row_of row)
-  unfolding row_of
-  leaving-place row {place} b once e h q =
+  pub leaving-place : (row : Row) {o : Option ℕ} {place : ℕ} {b : Bool} → distinct (stations (row_of row)) ≡ true → o ≡ found_at j (row_of row) → o ≡ Some place
+      → all || leb (entry_of row place).serial serial ≡ b → (if b then Some place else None) ≡ place_in (leaving all j serial) (row_of row)
+  unfolding row_of place_of
+  leaving-place row {o} {place} {b} once e h q =
+      let r = row_of row in
+      let leaves = leaving all j serial in
       let d = entry_of row 0 in
+      let at : First (names j) r place = place-some (names j) r e h in
       let long = tabulate-length row.count (entry_of row) in
-      sym
-      (leaving-found j (leaving all j serial) leaving-names (λ x. all || leb x.serial serial) leaving-one (row_of row) d once (omega (arith, long))
-      ∙ rw (← e, tabulate-at row.count (entry_of row) place d h, q, long))
+      let found = leaving-found j leaves leaving-names (λ x. all || leb x.serial serial) leaving-one r d once (omega (arith, at.first, at.within)) in
+      let same : index_of leaves r ≡ (if b then place else length r) = found ∙ rw (← at.first, tabulate-at row.count (entry_of row) place d (omega (arith, at.within, long)), q) in
+      sym (placed leaves r ∙ rw same (go b))
+    where
+      go : (b : Bool) → (if ltb (if b then place else length (row_of row)) (length (row_of row)) then Some (if b then place else length (row_of row)) else None)
+          ≡ (if b then Some place else None)
+      go true = rw (lt-ltb place (length (row_of row)) (place-some (names j) (row_of row) e h).within)
+      go false = rw (le-ltb (length (row_of row)) (length (row_of row)) (omega arith))

@@ -1,71 +1,88 @@
 -- The search for a station in a row.
-use Prim.Native.Nat.{ℕ, ◌+◌, ◌≤◌, ◌<◌}
+use Prim.Native.Nat.{ℕ, suc, ◌+◌, ◌<◌}
 use mathlib.Core.Path.{◌≡◌, refl, sym, ap, ◌∙◌}
-use mathlib.Core.Bool.{true, false, not}
+use mathlib.Core.Bool.{Bool, true, false, not}
+use mathlib.Core.List.{[], ◌∷◌}
 use lib.ListN.{length, get_or}
+use lib.Dec.{ltb}
 use native.Mathlib.Omega.{arith}
-use Rattle.base.specs.Lists.{all_below, some_in, tabulate}
-use Rattle.base.proofs.Loops.{all_none, all_more, tabulate-length, index-within, index-outside, index-found, index-not-found}
+use borrow.Author.Tests.{ltb-true}
+use Rattle.std.specs.Prelude.{Option, Some, None, is_some, unwrap_or, if◌then◌else◌}
+use Rattle.base.specs.Lists.{all_below, some_in, index_of, tabulate}
+use Rattle.base.proofs.Booleans.{neither}
+use Rattle.base.proofs.Lists.{all-below}
+use Rattle.base.proofs.Loops.{tabulate-length, index-within, index-outside, index-some, index-found, index-not-found}
 use Rattle.model.specs.Memory as model
 use Rattle.model.specs.Memory.{names}
 use Rattle.rows.specs.declared.Row.{Row}
 use Rattle.rows.specs.View.{entry_of}
-use Rattle.rows.specs.Search.{place_of, looked_at}
+use Rattle.rows.specs.Search.{place_of, place_in, found_at, looked_at}
 use Rattle.rows.proofs.RowLaws.{names_same, names-other}
 
--- The place tells whether an entry names j; one law for each case of the places looked at.
-module _ (j : ℕ) (r : model.Row) where
-  pub found : place_of j r < length r → some_in (names j) r ≡ true
-  unfolding place_of
-  found h = index-within (names j) r h
+-- Where no entry passes, the place of the first is past them all.
+pub index_none : (f : model.Successor → Bool) (r : model.Row) → some_in f r ≡ false → index_of f r ≡ length r
+unfolding some_in index_of
+index_none f [] h = refl
+index_none f (e ∷ r) h = let w = neither (f e) (some_in f r) h in rw w.0 (ap suc (index_none f r w.1))
 
-  pub not_found : length r ≤ place_of j r → some_in (names j) r ≡ false
-  unfolding place_of
-  not_found h = index-outside (names j) r h
+-- What the place tells: whether an entry passes, and which is the first.
+module _ (f : model.Successor → Bool) (r : model.Row) where
+  pub place_is_some : is_some (place_in f r) ≡ some_in f r
+  unfolding place_in
+  place_is_some = go (some_in f r)
+    where
+      go : (b : Bool) → is_some (if b then Some (index_of f r) else None) ≡ b
+      go true = refl
+      go false = refl
 
-  looked-hit : place_of j r < length r → looked_at j r ≡ place_of j r + 1
-  unfolding looked_at
-  looked-hit h = rw (found h)
+  pub record First (k : ℕ) : Type 0 where
+    pub some : some_in f r ≡ true
+    pub first : k ≡ index_of f r
+    pub within : k < length r
 
-  looked-all : length r ≤ place_of j r → looked_at j r ≡ length r
-  unfolding looked_at
-  looked-all h = rw (not_found h)
+  pub place-some : {o : Option ℕ} {k : ℕ} → o ≡ place_in f r → o ≡ Some k → First k
+  unfolding place_in
+  place-some {o} {k} e h = go (some_in f r) (index-some f r) (sym h ∙ e)
+    where
+      go : (b : Bool) → ltb (index_of f r) (length r) ≡ b → Some k ≡ (if b then Some (index_of f r) else None) → First k
+      go true s q =
+          let same : k ≡ index_of f r = cc in
+          let less = ltb-true _ _ s in
+          record { some = index-within f r less; first = same; within = omega arith }
+      go false s q = cc
 
--- A search among the first entries of a row: it goes on, and no entry that it looked at names j; or it ended with the entry before, the first
--- that does.
-pub data Search (row : Row) (count j place looked : ℕ) : Type 0 where
-  goes_on : place ≡ count → looked ≤ count → all_below looked (λ k. not (names j (entry_of row k))) ≡ true → Search row count j place looked
-  ended : looked ≡ place + 1 → place < count → all_below place (λ k. not (names j (entry_of row k))) ≡ true → names j (entry_of row place) ≡ true
-      → Search row count j place looked
+  pub place-none : {o : Option ℕ} → o ≡ place_in f r → o ≡ None → some_in f r ≡ false
+  place-none e h = sym place_is_some ∙ ap is_some (sym e ∙ h)
 
-module _ {row : Row} {count j : ℕ} where
-  pub search-none : Search row count j count 0
-  search-none = goes_on refl (omega arith) (all_none _)
+  -- The place by its number, which is the row's length where none passes.
+  pub placed : place_in f r ≡ (if ltb (index_of f r) (length r) then Some (index_of f r) else None)
+  unfolding place_in
+  placed = rw (index-some f r)
 
-  module _ {place looked : ℕ} where
-    -- One place more, which names another station or j.
-    pub search-more : {next : ℕ} → Search row count j place looked → looked < place → next ≡ place → (get_or row.stations looked 0 ≡ j → ⊥) → Search row count j next (looked + 1)
-    search-more (goes_on e h none) m q other = goes_on (q ∙ e) (omega arith) (all_more _ _ none (names-other row looked j other))
-    search-more (ended e h none this) m q other = absurd (omega arith)
+  pub place_or : unwrap_or (place_in f r) (length r) ≡ index_of f r
+  unfolding place_in
+  place_or = go (some_in f r) refl
+    where
+      go : (b : Bool) → some_in f r ≡ b → unwrap_or (if b then Some (index_of f r) else None) (length r) ≡ index_of f r
+      go true e = refl
+      go false e = sym (index_none f r e)
 
-    pub search-hit : {next : ℕ} → Search row count j place looked → looked < place → next ≡ looked → get_or row.stations looked 0 ≡ j → Search row count j next (looked + 1)
-    search-hit (goes_on e h none) m q this = ended (omega arith) (omega arith) (rw q none) (rw q (names_same row looked j this))
-    search-hit (ended e h none that) m q this = absurd (omega arith)
+-- A search among the first entries of a row, none of which before k names j: it ends at place k, which does, or past them all.
+module _ (row : Row) (count j k : ℕ) (others : (i : ℕ) → i < k → get_or row.stations i 0 ≡ j → ⊥) where
+  none : all_below k (λ i. not (names j (entry_of row i))) ≡ true
+  none = all-below k _ (λ i h. names-other row i j (others i h))
 
-    -- Where it ends.
-    pub search-place : Search row count j place looked → place ≤ looked → place ≡ place_of j (tabulate count (entry_of row))
-    unfolding place_of
-    search-place (goes_on e h none) m = e ∙ sym (index-not-found (names j) count (entry_of row) looked none (omega arith))
-    search-place (ended e h none this) m = sym (index-found (names j) count (entry_of row) place none h this)
+  pub search-hit : k < count → get_or row.stations k 0 ≡ j
+      → (Some k ≡ found_at j (tabulate count (entry_of row))) × (k + 1 ≡ looked_at j (tabulate count (entry_of row)))
+  unfolding place_in looked_at place_of
+  search-hit h this =
+      let at = index-found (names j) count (entry_of row) k none h (names_same row k j this) in
+      let some = index-within (names j) (tabulate count (entry_of row)) (omega (arith, at, tabulate-length count (entry_of row))) in
+      rw (some, at) (refl, refl)
 
-    pub search-looked : Search row count j place looked → place ≤ looked → looked ≡ looked_at j (tabulate count (entry_of row))
-    search-looked s m = go s (search-place s m)
-      where
-        long : length (tabulate count (entry_of row)) ≡ count
-        long = tabulate-length count (entry_of row)
-
-        go : Search row count j place looked → place ≡ place_of j (tabulate count (entry_of row)) → looked ≡ looked_at j (tabulate count (entry_of row))
-        go (goes_on e h none) at =
-            let all : looked ≡ length (tabulate count (entry_of row)) = omega (arith, long) in
-            all ∙ sym (looked-all j (tabulate count (entry_of row)) (omega (arith, long)))
-        go (ended e h none this) at = e ∙ ap (λ k. k + 1) at ∙ sym (looked-hit j (tabulate count (entry_of row)) (omega (arith, long)))
+  pub search-all : k ≡ count → (None ≡ found_at j (tabulate count (entry_of row))) × (count ≡ looked_at j (tabulate count (entry_of row)))
+  unfolding place_in looked_at
+  search-all e =
+      let past = index-not-found (names j) count (entry_of row) k none e in
+      let no_other = index-outside (names j) (tabulate count (entry_of row)) (omega (arith, past, tabulate-length count (entry_of row))) in
+      rw (no_other, tabulate-length count (entry_of row)) (refl, refl)

@@ -7,7 +7,7 @@ ghost use Rattle.model.specs.Memory.{names, without, under, put, with_room, row_
 ghost use Rattle.model.specs.Calls.{empties};
 ghost use Rattle.rows.specs.View.{successor_of, entry_of, row_of, Written, NamesOnce};
 ghost use Rattle.rows.specs.Leaving.{leaving};
-ghost use Rattle.rows.specs.Search.{place_of, looked_at};
+ghost use Rattle.rows.specs.Search.{place_in, found_at, looked_at};
 
 use label::{Label, label_of};
 
@@ -22,7 +22,8 @@ pub struct Successor {
     pub station: u8,
 }
 
-// A row of successors: entry k is the station stations[k] with the label labels[k] and the serial number serials[k].
+// A row of successors: entry k is the station stations[k] with the label labels[k] and the serial number serials[k]. Fixed form: 104 bytes, where
+// an array of entries has 136; `read_row` and `load` make rows of any count, so the limit stands in the contracts.
 #[derive(Clone, Copy)]
 pub struct Row {
     pub labels: [Label; ROW_LIMIT as usize],
@@ -32,33 +33,28 @@ pub struct Row {
 }
 
 // A row of no successors.
+#[tactic(auto, unfolding(crate::specs::View::row_of, base::specs::Lists::tabulate))]
 pub fn empty_row() -> Row
     ensures { row_of result ≡ [] }
 {
-    let none = label_of(0, 0, 0);
-    let labels = [none; ROW_LIMIT as usize];
-    let serials = [0; ROW_LIMIT as usize];
-    let stations = [0; ROW_LIMIT as usize];
     Row {
-        labels: labels,
-        serials: serials,
-        stations: stations,
+        labels: [label_of(0, 0, 0); ROW_LIMIT as usize],
+        serials: [0; ROW_LIMIT as usize],
+        stations: [0; ROW_LIMIT as usize],
         count: 0,
     }
 }
 
 // Entry k of a row.
+#[tactic(auto, unfolding(crate::specs::View::entry_of))]
 pub fn entry(row: Row, k: usize) -> Successor
     requires { k < row_limit }
     ensures { successor_of result ≡ entry_of row k }
 {
-    let label = row.labels[k];
-    let serial = row.serials[k];
-    let station = row.stations[k];
     Successor {
-        label: label,
-        serial: serial,
-        station: station,
+        label: row.labels[k],
+        serial: row.serials[k],
+        station: row.stations[k],
     }
 }
 
@@ -67,43 +63,37 @@ pub fn with_entry(row: Row, k: usize, e: Successor) -> Row
     requires { k < row_limit }
     ensures { Written row k (successor_of e) result }
 {
-    let label = e.label;
-    let serial = e.serial;
-    let station = e.station;
     let mut next = row;
-    next.labels[k] = label;
-    next.serials[k] = serial;
-    next.stations[k] = station;
+    next.labels[k] = e.label;
+    next.serials[k] = e.serial;
+    next.stations[k] = e.station;
     next
 }
 
-// How a search ended: the place of the first entry that names the station, or the number of entries where none does; and how many places
-// it looked at.
+// How a search ended: the place of the first entry that names the station, None where none does; and how many places it looked at.
 #[derive(Clone, Copy)]
 pub struct Found {
-    pub place: u8,
+    pub place: Option<u8>,
     pub looked: u8,
 }
 
 // The search for j among the first entries of a row, so many as `count` says.
 pub fn find(row: Row, count: u8, j: u8) -> Found
     requires { count ≤ row_limit }
-    ensures place { result.place ≡ place_of j (tabulate count (entry_of row)) }
+    ensures place { result.place ≡ found_at j (tabulate count (entry_of row)) }
     ensures looked { result.looked ≡ looked_at j (tabulate count (entry_of row)) }
 {
-    let mut place = count;
-    let mut looked = 0;
-    while looked < place {
-        let at = looked as usize;
-        let station = row.stations[at];
-        if station == j {
-            place = looked;
+    for k in 0..count {
+        if row.stations[k as usize] == j {
+            return Found {
+                place: Some(k),
+                looked: k + 1,
+            };
         }
-        looked += 1;
     }
     Found {
-        place: place,
-        looked: looked,
+        place: None,
+        looked: count,
     }
 }
 
@@ -112,9 +102,8 @@ fn push(row: Row, e: Successor) -> Row
     requires { row.count < row_limit }
     ensures { row_of result ≡ row_of row ++ (successor_of e ∷ []) }
 {
-    let count = row.count;
-    let mut next = with_entry(row, count as usize, e);
-    next.count = count + 1;
+    let mut next = with_entry(row, row.count as usize, e);
+    next.count += 1;
     next
 }
 
@@ -123,17 +112,13 @@ fn under(row: Row, g: Label) -> Row
     requires { row.count ≤ row_limit }
     ensures { row_of result ≡ under g (row_of row) }
 {
-    let count = row.count as usize;
     let mut next = row;
     next.count = 0;
-    let mut k = 0;
-    while k < count {
-        let e = entry(row, k);
-        let label = e.label;
-        if label::is_above(g, label) {
+    for k in 0..row.count {
+        let e = entry(row, k as usize);
+        if label::is_above(g, e.label) {
             next = push(next, e);
         }
-        k += 1;
     }
     next
 }
@@ -143,14 +128,9 @@ fn remove_at(mut row: Row, place: u8) -> Row
     requires { (place < row.count) × (row.count ≤ row_limit) }
     ensures { row_of result ≡ remove_at place (row_of row) }
 {
-    let count = row.count - 1;
-    let last = count as usize;
-    row.count = count;
-    let mut k = place as usize;
-    while k < last {
-        let e = entry(row, k + 1);
-        row = with_entry(row, k, e);
-        k += 1;
+    row.count -= 1;
+    for k in place as usize..row.count as usize {
+        row = with_entry(row, k, entry(row, k + 1));
     }
     row
 }
@@ -171,14 +151,10 @@ fn put(row: Row, e: Successor) -> Row
     requires { row.count ≤ row_limit }
     ensures { row_of result ≡ put (successor_of e) (row_of row) }
 {
-    let count = row.count;
-    let station = e.station;
-    let found = find(row, count, station);
-    let place = found.place;
-    if count <= place {
-        return push(with_room(row), e);
+    match find(row, row.count, e.station).place {
+        Some(place) => with_entry(row, place as usize, e),
+        None => push(with_room(row), e),
     }
-    with_entry(row, place as usize, e)
 }
 
 // The row of a station that takes the label g by a reply from e.
@@ -189,29 +165,24 @@ pub fn adopted(row: Row, g: Label, e: Successor) -> Row
     put(under(row, g), e)
 }
 
-// What a row loses: whether an entry leaves it, and whether this empties it.
+// What a row loses: whether an entry leaves it, and whether this empties it. `NamesOnce` stands in each contract, since rows of any entries are read
+// from bytes, and the pages name these functions with a row, a station, a flag and a number.
 #[derive(Clone, Copy)]
 pub struct Loss {
     pub removed: bool,
     pub emptied: bool,
 }
 
-// The place of the entry that leaves: the one that names j, where all leave or its serial number is at most this; else the row's count.
-fn leaving_place(row: Row, j: u8, all: bool, serial: u64) -> u8
+// The place of the entry that leaves: the one that names j, where all leave or its serial number is at most this; None where none leaves.
+fn leaving_place(row: Row, j: u8, all: bool, serial: u64) -> Option<u8>
     requires { NamesOnce row }
-    ensures { result ≡ index_of (leaving all j serial) (row_of row) }
+    ensures { result ≡ place_in (leaving all j serial) (row_of row) }
 {
-    let count = row.count;
-    let found = find(row, count, j);
-    let at = found.place;
-    if count <= at {
-        return count;
+    let at = find(row, row.count, j).place?;
+    if all | (row.serials[at as usize] <= serial) {
+        return Some(at);
     }
-    let kept = row.serials[at as usize];
-    if all | (kept <= serial) {
-        return at;
-    }
-    count
+    None
 }
 
 // What the row loses with j.
@@ -220,11 +191,10 @@ pub fn loss_of(row: Row, j: u8, all: bool, serial: u64) -> Loss
     ensures removed { result.removed ≡ some_in (leaving all j serial) (row_of row) }
     ensures emptied { result.emptied ≡ empties (leaving all j serial) (row_of row) }
 {
-    let count = row.count;
-    let removed = leaving_place(row, j, all, serial) < count;
+    let removed = leaving_place(row, j, all, serial).is_some();
     Loss {
-        removed: removed,
-        emptied: removed & (count == 1),
+        removed,
+        emptied: removed & (row.count == 1),
     }
 }
 
@@ -233,10 +203,8 @@ pub fn without_station(row: Row, j: u8, all: bool, serial: u64) -> Row
     requires { NamesOnce row }
     ensures { row_of result ≡ without (leaving all j serial) (row_of row) }
 {
-    let count = row.count;
-    let place = leaving_place(row, j, all, serial);
-    if place < count {
-        return remove_at(row, place);
+    match leaving_place(row, j, all, serial) {
+        Some(place) => remove_at(row, place),
+        None => row,
     }
-    row
 }

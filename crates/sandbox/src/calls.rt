@@ -1,12 +1,14 @@
 // The public calls. Each takes any memory and any numbers, tests 1 and then the rest, and gives the memory after it.
 ghost use Rattle.std.specs.Prelude.{◌≡◌, ◌≢◌, false, ℕ};
+ghost use Rattle.base.specs.Results.{mapped};
 ghost use Rattle.label.specs.Label.{split};
 ghost use Rattle.model.specs.Memory.{memory_in_range};
 ghost use Rattle.model.specs.Calls.{Open, Up, Down, Solicit, GiveUp, Expire, Deliver, Lose, Duplicate, step, traced, trace};
 ghost use Rattle.model.specs.Events.{not_event, call_of};
-ghost use Rattle.model.specs.Preview.{preview};
+ghost use Rattle.model.specs.Preview.{previewing};
 ghost use Rattle.model.specs.Walks.{Reached};
 ghost use Rattle.network.specs.View.{view};
+ghost use Rattle.validation.specs.Refusal.{outcome};
 ghost use Rattle.steps.specs.Called.{Called};
 ghost use Rattle.steps.specs.Drained.{DrainEnds};
 ghost use Rattle.previews.specs.Shown.{preview_of};
@@ -15,29 +17,28 @@ ghost use Rattle.sandbox.specs.Made.{MadeMemory, WalksEndIn};
 use network::Memory;
 use network::opening::fresh;
 use network::range::in_range;
-use previews::{Preview, gather, preview_of, turned_down};
+use previews::{Preview, preview_in_range};
 use steps::drain::drain_in_range;
-use steps::single::event_in_range;
+use steps::happening::happen;
 use steps::{Done, Drained, Traced};
-use validation::{narrow, open_refusal};
+use validation::{Refusal, narrow, open_refusal};
 
 // The call of a kind, 1 to 8. An operand that it does not use is 0.
-pub fn call(memory: Memory, kind: u8, a: usize, b: usize) -> Done
+pub fn call(mut memory: Memory, kind: u8, a: usize, b: usize) -> Done
     ensures { kind ≢ 9 → not_event kind b ≡ false → Called memory (step (call_of kind a b) (view memory)) result }
 {
-    if !in_range(memory) {
+    if !in_range(&memory) {
         return Done {
-            memory: memory,
+            memory,
             answer: 1,
             sent: 0,
         };
     }
-    let happened = event_in_range(memory, kind, narrow(a), narrow(b));
-    let next = happened.memory;
+    let told = happen(&mut memory, kind, narrow(a), narrow(b));
     Done {
-        memory: next,
-        answer: happened.answer,
-        sent: happened.sent,
+        memory,
+        answer: told.answer,
+        sent: told.sent,
     }
 }
 
@@ -45,18 +46,17 @@ pub fn call(memory: Memory, kind: u8, a: usize, b: usize) -> Done
 pub fn open(memory: Memory, n: usize, start: u64, limit: usize) -> Done
     ensures { Called memory (step (Open n start limit) (view memory)) result }
 {
-    let number = open_refusal(n, start, limit);
-    if number != 0 {
-        return Done {
-            memory: memory,
-            answer: number,
+    match open_refusal(n, start, limit) {
+        Err(why) => Done {
+            memory,
+            answer: why.number(),
             sent: 0,
-        };
-    }
-    Done {
-        memory: fresh(n as u8, start, limit as u8),
-        answer: 0,
-        sent: 0,
+        },
+        Ok(()) => Done {
+            memory: fresh(n as u8, start, limit as u8),
+            answer: 0,
+            sent: 0,
+        },
     }
 }
 
@@ -102,15 +102,14 @@ pub fn deliver(memory: Memory, k: usize) -> Done
     call(memory, 6, k, 0)
 }
 
-// A preview of packet k: what Deliver would give. The result holds no memory.
-pub fn preview(memory: Memory, k: usize) -> Preview
-    ensures { preview_of result ≡ preview (view memory) k }
+// A preview of packet k: what Deliver would give, or why it would be turned down. The result holds no memory.
+pub fn preview(memory: Memory, k: usize) -> Result<Preview, Refusal>
+    ensures { mapped preview_of (outcome result) ≡ previewing (view memory) k }
 {
-    if !in_range(memory) {
-        return turned_down(1);
+    if !in_range(&memory) {
+        return Err(Refusal::OutOfRange);
     }
-    let a = narrow(k);
-    preview_of(gather(memory, a), a)
+    preview_in_range(&memory, narrow(k))
 }
 
 // Draining the air: packet 0 is delivered again and again, and lost where Deliver gives 13 or 7, until no packet is in the air. No walk goes in a circle
@@ -120,9 +119,9 @@ pub fn drain(memory: Memory) -> Drained
     ensures loop_free { MadeMemory memory → (a t : ℕ) → WalksEndIn result.memory a t (trace (view result.memory) a t) }
     ensures reached { Reached (view memory) → (a t : ℕ) → WalksEndIn result.memory a t (trace (view result.memory) a t) }
 {
-    if !in_range(memory) {
+    if !in_range(&memory) {
         return Drained {
-            memory: memory,
+            memory,
             answer: 1,
             deliveries: 0,
             losses: 0,
@@ -146,17 +145,17 @@ pub fn duplicate(memory: Memory, k: usize) -> Done
 }
 
 // Trace: the walk from a for t. It changes nothing. No walk goes in a circle in memory that the calls above made.
-pub fn trace(memory: Memory, a: usize, t: usize) -> Traced
+pub fn trace(mut memory: Memory, a: usize, t: usize) -> Traced
     ensures traced { traced result.answer result.hops ≡ trace (view memory) a t }
     ensures loop_free { MadeMemory memory → WalksEndIn memory a t (traced result.answer result.hops) }
     ensures reached { Reached (view memory) → WalksEndIn memory a t (traced result.answer result.hops) }
 {
-    if !in_range(memory) {
+    if !in_range(&memory) {
         return Traced { answer: 1, hops: 0 };
     }
-    let happened = event_in_range(memory, 9, narrow(a), narrow(t));
+    let told = happen(&mut memory, 9, narrow(a), narrow(t));
     Traced {
-        answer: happened.answer,
-        hops: happened.hops,
+        answer: told.answer,
+        hops: told.hops,
     }
 }

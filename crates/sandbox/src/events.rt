@@ -14,27 +14,33 @@ ghost use Rattle.sandbox.specs.Telling.{Tells, tally_of_run};
 
 use network::Memory;
 use network::range::in_range;
-use steps::single::event_in_range;
+use steps::happening::happen;
 use steps::{Happened, running};
 use telling::tally::{Tally, no_events, tally_of};
 use validation::{all_events, not_events};
 
 // An event: the call of its kind on its operands, or a Trace.
-pub fn event(memory: Memory, kind: u8, a: u8, b: u8) -> Happened
+pub fn event(mut memory: Memory, kind: u8, a: u8, b: u8) -> Happened
     ensures { Happens memory (event_of kind a b) result }
 {
-    if !in_range(memory) {
+    if !in_range(&memory) {
         return Happened {
-            memory: memory,
+            memory,
             answer: 1,
             sent: 0,
             hops: 0,
         };
     }
-    event_in_range(memory, kind, a, b)
+    let told = happen(&mut memory, kind, a, b);
+    Happened {
+        memory,
+        answer: told.answer,
+        sent: told.sent,
+        hops: told.hops,
+    }
 }
 
-// What a run of events gives: the memory after it, its answer, and the tally of its events.
+// What a run of events gives: the memory after it, its answer, and the tally of its events. The answer as in `steps::Done`.
 #[derive(Clone, Copy)]
 pub struct Tallied {
     pub memory: Memory,
@@ -58,38 +64,36 @@ pub fn run(memory: Memory, kinds: &[u8], operands: &[u8], lines: &mut [u64]) -> 
     let count = kinds.len();
     if not_events(count, operands.len()) {
         return Tallied {
-            memory: memory,
+            memory,
             answer: 10,
             tally: none,
         };
     }
-    if !in_range(memory) {
+    if !in_range(&memory) {
         return Tallied {
-            memory: memory,
+            memory,
             answer: 1,
             tally: none,
         };
     }
     if !all_events(kinds, operands) {
         return Tallied {
-            memory: memory,
+            memory,
             answer: 11,
             tally: none,
         };
     }
     if lines.len() < count {
         return Tallied {
-            memory: memory,
+            memory,
             answer: 12,
             tally: none,
         };
     }
     let ran = running::run(memory, false, kinds, operands, lines);
-    let tally = tally_of(lines, count);
-    let next = ran.memory;
     Tallied {
-        memory: next,
+        memory: ran.memory,
         answer: 0,
-        tally: tally,
+        tally: tally_of(lines, count),
     }
 }

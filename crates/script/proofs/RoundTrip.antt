@@ -12,7 +12,7 @@ use lib.Dec.{ltb, eqb}
 use borrow.Author.Tests.{le-ltb, eq-eqb, ne_eqb, ltb-false, eqb-true, eqb-false, not-true}
 use Rattle.base.proofs.Lists.{all-below-at}
 use Rattle.base.proofs.Loops.{tabulate-length, tabulate-at}
-use Rattle.base.specs.Results.{refused, accepted}
+use Rattle.base.specs.Results.{refused, accepted, mapped}
 use Rattle.base.proofs.Results.{refuse-holds, refuse-passes}
 use Rattle.codec.specs.Bytes.{little_endian, number, Puts, AllBytes}
 use Rattle.codec.proofs.ByteLaws.{over_first, all-bytes, little-length, number-little, little-number, bytes_take, bytes_drop}
@@ -22,8 +22,7 @@ use Rattle.model.proofs.Refusals.{opening-tells}
 use Rattle.model.proofs.EventLaws.{events-tell, event-determines}
 use Rattle.script.specs.Script.{Script, script, encoded, event_count, decoded, not_sized, no_room, parsing, reading, writing}
 use Rattle.script.specs.declared.Found.{Found}
-use Rattle.script.specs.declared.Written.{Written}
-use Rattle.script.specs.ScriptContracts.{found_of, Reads, in_arrays, written_of}
+use Rattle.script.specs.ScriptContracts.{found_of, Reads, in_arrays}
 use Rattle.script.specs.Determined.{events, Determined}
 use Rattle.script.proofs.ScriptLaws.{sized-tell, room-enough, Tested, kinds-length, operands-length, reading-accepted, reading-tells, reads-script}
 use Rattle.script.proofs.ScriptLaws.{Listed, writing-accepted, writing-tells, events-length, puts-script}
@@ -207,49 +206,32 @@ same-script bytes bytes' s s' kinds operands kinds' operands' b b' e e' hn hs he
 pub determined : Determined
 determined = record { written-reads = written-reads; read-writes = read-writes; same-script = same-script }
 
--- On the code: what `write` wrote reads back as what it was given, and what `read` left in its arrays is written back to the same bytes. The two
--- contracts of each function together.
-module _ (s : Script) (out out' : List ℕ) (r : Written) where
-  abbrev pub HasWritten : Type 0
-  HasWritten = Puts written_of (writing s (length out)) out r out'
-
-  abbrev pub ReadBack : Type 0
-  ReadBack = r.answer ≡ 0 → reading (take r.bytes out') (length s.kinds) (length s.operands) ≡ accepted s
-
-  pub with-read-back : Fits w64 s.start → HasWritten → HasWritten × ReadBack
-  with-read-back hs h = (h, back)
-    where
-      back : ReadBack
-      back z =
-          let w = puts-script s out out' r h z in
-          let first = over_first (encoded s) out out' r.bytes w.2 w.1 in
-          ap (λ (l : List ℕ). reading l (length s.kinds) (length s.operands)) first.1
-          ∙ written-reads s (encoded s) (length out) (length s.kinds) (length s.operands) (omega (arith, hs)) w.0 (omega arith) (omega arith)
+-- On the code: what `write` wrote reads back as what it was given, and what `read` left in its arrays is written back to the same bytes.
+module _ (s : Script) (out out' : List ℕ) (bytes : ℕ) where
+  pub read-back : Fits w64 s.start → Puts (λ bytes. bytes) (writing s (length out)) out (accepted bytes) out'
+      → reading (take bytes out') (length s.kinds) (length s.operands) ≡ accepted s
+  read-back hs h =
+      let w = puts-script s out out' bytes h in
+      let first = over_first (encoded s) out out' bytes w.2 w.1 in
+      ap (λ (l : List ℕ). reading l (length s.kinds) (length s.operands)) first.1
+      ∙ written-reads s (encoded s) (length out) (length s.kinds) (length s.operands) (omega (arith, hs)) w.0 (omega arith) (omega arith)
 
 module _ (bytes kinds operands kinds' operands' : List ℕ) (r : Found) where
-  abbrev pub HasRead : Type 0
-  HasRead = Reads found_of (reading bytes (length kinds) (length operands)) kinds operands r kinds' operands'
-
-  abbrev pub WrittenBack : Type 0
-  WrittenBack = r.answer ≡ 0 → writing (in_arrays r kinds' operands') (length bytes) ≡ accepted bytes
-
-  pub with-written-back : ((i : ℕ) → Fits w8 (get_or bytes i 0)) → HasRead → HasRead × WrittenBack
-  unfolding found_of
-  with-written-back b h = (h, back)
-    where
-      back : WrittenBack
-      back z =
-          let w = reads-script bytes kinds operands r kinds' operands' h z in
-          let s = decoded bytes in
-          let is = w.told.is_found in
-          let e : r.events ≡ length s.kinds = ap (λ (x : Found). x.events) is in
-          let twice : 2 * r.events ≡ length s.operands = ap (λ (x : ℕ). 2 * x) w.told.count ∙ sym (operands-length bytes w.told.tested.counted) in
-          let k = over_first s.kinds kinds kinds' r.events w.kinds-after e in
-          let o = over_first s.operands operands operands' (2 * r.events) w.operands-after twice in
-          let n = ap (λ (x : Found). x.n) is in
-          let start = ap (λ (x : Found). x.start) is in
-          (λ i. writing (script (n i) (start i) (k.1 i) (o.1 i)) (length bytes))
-          ∙ read-writes bytes s (length bytes) (length kinds) (length operands) (all-bytes bytes b) w.ended (omega arith)
+  pub written-back : ((i : ℕ) → Fits w8 (get_or bytes i 0))
+      → Reads (mapped found_of) (reading bytes (length kinds) (length operands)) kinds operands (accepted r) kinds' operands'
+      → writing (in_arrays r kinds' operands') (length bytes) ≡ accepted bytes
+  written-back b h =
+      let w = reads-script bytes kinds operands r kinds' operands' h in
+      let s = decoded bytes in
+      let is = w.told.is_found in
+      let e : r.events ≡ length s.kinds = ap (λ (x : Found). x.events) is in
+      let twice : 2 * r.events ≡ length s.operands = ap (λ (x : ℕ). 2 * x) w.told.count ∙ sym (operands-length bytes w.told.tested.counted) in
+      let k = over_first s.kinds kinds kinds' r.events w.kinds-after e in
+      let o = over_first s.operands operands operands' (2 * r.events) w.operands-after twice in
+      let n = ap (λ (x : Found). x.n) is in
+      let start = ap (λ (x : Found). x.start) is in
+      (λ i. writing (script (n i) (start i) (k.1 i) (o.1 i)) (length bytes))
+      ∙ read-writes bytes s (length bytes) (length kinds) (length operands) (all-bytes bytes b) w.ended (omega arith)
 
 -- More bytes than any script may have are turned down with 10, whatever they are.
 pub too_long : (bytes : List ℕ) → 11 + 3 * event_limit < length bytes → parsing bytes ≡ refused 10

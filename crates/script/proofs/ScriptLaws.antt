@@ -2,7 +2,6 @@
 use Prim.Native.Nat.{ℕ, ◌+◌, ◌-◌, ◌*◌, ◌≤◌, ◌<◌}
 use mathlib.Core.Path.{◌≡◌, refl, sym, ap, ◌∙◌}
 use mathlib.Core.Bool.{true, false, not}
-use mathlib.Core.Logic.{◌≢◌}
 use mathlib.Core.List.{List, [], ◌∷◌}
 use lib.ListN.{length, get_or, take, drop, length-append, length-drop}
 use lib.Seq.{sets, length-take-le, take_all}
@@ -11,16 +10,15 @@ use native.Mathlib.Omega.{arith}
 use borrow.Author.Tests.{le-ltb, ltb-false, eqb-true, not-false}
 use Rattle.base.specs.Results.{Result, refused, accepted, refuse◌when◌otherwise◌, mapped, ◌and_then◌}
 use Rattle.base.proofs.Booleans.{neither}
-use Rattle.base.proofs.Results.{refuse-holds, refuse-passes, Satisfies, refuses, accepts, satisfies-refuse, satisfies-accepted}
+use Rattle.base.proofs.Results.{refuse-holds, refuse-passes, not-accepted, same-accepted, same-refused, Satisfies, refuses, accepts, satisfies-refuse, satisfies-accepted}
 use Rattle.codec.specs.Bytes.{little_endian, number, over, put_into, Puts}
 use Rattle.codec.proofs.ByteLaws.{sets-append, sets_over}
 use Rattle.model.specs.Calls.{not_opening}
 use Rattle.model.specs.Events.{event_limit, not_events, all_events}
 use Rattle.model.proofs.EventLaws.{events-tell}
 use Rattle.script.specs.declared.Found.{Found}
-use Rattle.script.specs.declared.Written.{Written}
 use Rattle.script.specs.Script.{Script, encoded, event_count, decoded, not_sized, no_room, parsing, reading, writing}
-use Rattle.script.specs.ScriptContracts.{found, found_of, start_of, Reads, written_of}
+use Rattle.script.specs.ScriptContracts.{found_of, start_of, Reads}
 
 -- What the tests 10 and 12 of reading tell where they pass.
 pub sized-tell : (events bytes : ℕ) → not_sized events bytes ≡ false → (events ≤ event_limit) × (bytes ≡ 11 + 3 * events)
@@ -52,9 +50,21 @@ pub record Tested (bytes : List ℕ) : Type 0 where
   pub opens : not_opening (decoded bytes).n (decoded bytes).start ≡ false
   pub all : all_events (decoded bytes).kinds (decoded bytes).operands ≡ true
 
--- No number of a refusal is 0.
-abbrev pub Positive : ℕ → Type 0
-Positive number = 0 < number
+-- Where a result is changed, it is turned down or accepted as before.
+module _ {A B : Type 0} (f : A → B) where
+  pub unmapped-refused : (z : Result A) {number : ℕ} → refused number ≡ mapped f z → z ≡ refused number
+  unfolding mapped
+  unmapped-refused (refused k) e = ap refused (sym (same-refused {A = B} e))
+  unmapped-refused (accepted x) e = not-accepted e
+
+  pub unmapped-accepted : (z : Result A) {y : B} → accepted y ≡ mapped f z → (x : A) × (z ≡ accepted x) × (y ≡ f x)
+  unfolding mapped
+  unmapped-accepted (refused k) e = not-accepted (sym e)
+  unmapped-accepted (accepted x) e = (x, refl, same-accepted e)
+
+-- A number that a call is turned down with: nothing is asked of it.
+abbrev pub AnyNumber : ℕ → Type 0
+AnyNumber number = Unit {0}
 
 module _ (bytes : List ℕ) where
   -- Where 10 passes E bytes from place 11 on are the kinds, and 2E from there on the operands: the parts that the code takes.
@@ -103,10 +113,10 @@ module _ (bytes : List ℕ) where
   abbrev pub Parsed : Script → Type 0
   Parsed s = Tested bytes × (s ≡ decoded bytes)
 
-  parsing-ends : Satisfies Positive Parsed (parsing bytes)
+  parsing-ends : Satisfies AnyNumber Parsed (parsing bytes)
   unfolding parsing
   parsing-ends =
-      satisfies-refuse 9 _ _ (omega arith) (λ long. satisfies-refuse 10 _ _ (omega arith) (λ counted. satisfies-refuse 1 _ _ (omega arith) (λ opens. satisfies-refuse 11 _ _ (omega arith) (λ all.
+      satisfies-refuse 9 _ _ tt (λ long. satisfies-refuse 10 _ _ tt (λ counted. satisfies-refuse 1 _ _ tt (λ opens. satisfies-refuse 11 _ _ tt (λ all.
       accepts (record { long = long; counted = counted; opens = opens; all = not-false _ all }, refl)))))
 
   -- The script is read into arrays of so many places.
@@ -128,13 +138,13 @@ module _ (bytes : List ℕ) where
     pub reading-accepted : Tested bytes → no_room (length (decoded bytes).kinds) kinds operands ≡ false → reading bytes kinds operands ≡ accepted (decoded bytes)
     reading-accepted t h = reading-placed t ∙ refuse-passes 12 _ _ h
 
-    pub reading-ends : Satisfies Positive Parsed (reading bytes kinds operands)
+    pub reading-ends : Satisfies AnyNumber Parsed (reading bytes kinds operands)
     unfolding reading ◌and_then◌
     reading-ends = go (parsing bytes) parsing-ends
       where
-        go : (z : Result Script) → Satisfies Positive Parsed z → Satisfies Positive Parsed (z and_then placed)
+        go : (z : Result Script) → Satisfies AnyNumber Parsed z → Satisfies AnyNumber Parsed (z and_then placed)
         go (refused number) (refuses h) = refuses h
-        go (accepted s) (accepts h) = satisfies-refuse 12 _ _ (omega arith) (λ e. accepts h)
+        go (accepted s) (accepts h) = satisfies-refuse 12 _ _ tt (λ e. accepts h)
 
     pub reading-tells : (s : Script) → reading bytes kinds operands ≡ accepted s → Parsed s
     reading-tells s e = satisfies-accepted (reading bytes kinds operands) s reading-ends e
@@ -144,76 +154,65 @@ module _ (bytes : List ℕ) where
   unfolding reading ◌and_then◌
   reading-whole = go (parsing bytes) parsing-ends
     where
-      go : (z : Result Script) → Satisfies Positive Parsed z → z and_then placed event_limit (2 * event_limit) ≡ z
+      go : (z : Result Script) → Satisfies AnyNumber Parsed z → z and_then placed event_limit (2 * event_limit) ≡ z
       go (refused number) h = refl
       go (accepted s) (accepts h) =
           refuse-passes 12 _ _ (ap (λ (x : Script). no_room (length x.kinds) event_limit (2 * event_limit)) h.1 ∙ whole_room h.0.counted)
 
 -- The contract of parsing, by how it ends.
-module _ (bytes : List ℕ) (r : Found) where
-  pub parse-refused : (number : ℕ) → parsing bytes ≡ refused number → r ≡ found 0 0 number 0 → r ≡ found_of (parsing bytes)
-  unfolding found_of
-  parse-refused number h e = rw h e
+module _ (bytes : List ℕ) where
+  pub parse-refused : (number : ℕ) → parsing bytes ≡ refused number → refused number ≡ mapped found_of (parsing bytes)
+  unfolding mapped
+  parse-refused number h = rw h
 
-  pub parse-accepted : Tested bytes → r ≡ found (decoded bytes).start (event_count bytes) 0 (decoded bytes).n → r ≡ found_of (parsing bytes)
-  unfolding found_of
-  parse-accepted t e = rw (parsing-accepted bytes t, kinds-length bytes t.counted) e
+  pub parse-accepted : (r : Found) → Tested bytes → r ≡ record { start = (decoded bytes).start; events = event_count bytes; n = (decoded bytes).n }
+      → accepted r ≡ mapped found_of (parsing bytes)
+  unfolding mapped
+  parse-accepted r t e = rw (parsing-accepted bytes t, kinds-length bytes t.counted) (ap accepted e)
 
--- What is told of a script: another answer than 0 is the number of the refusal, and 0 tells that it was read.
-module _ (z : Result Script) (r : Found) (e : r ≡ found_of z) where
-  pub found-refused : r.answer ≢ 0 → z ≡ refused r.answer
-  unfolding found_of
-  found-refused h = go z e
-    where
-      go : (y : Result Script) → r ≡ found_of y → y ≡ refused r.answer
-      go (refused number) q = ap refused (sym (ap (λ (x : Found). x.answer) q))
-      go (accepted s) q = absurd (h (ap (λ (x : Found). x.answer) q))
+-- The start that is told.
+pub start-refused : (z : Result Script) {number : ℕ} → refused number ≡ mapped found_of z → 0 ≡ start_of z
+unfolding start_of
+start-refused z e = rw (unmapped-refused found_of z e)
 
-  pub found-accepted : (bytes : List ℕ) → Satisfies Positive (Parsed bytes) z → r.answer ≡ 0 → Tested bytes × (z ≡ accepted (decoded bytes))
-  unfolding found_of
-  found-accepted bytes t h = go z t e
-    where
-      go : (y : Result Script) → Satisfies Positive (Parsed bytes) y → r ≡ found_of y → Tested bytes × (y ≡ accepted (decoded bytes))
-      go (refused number) (refuses p) q = absurd (omega (arith, p, h, ap (λ (x : Found). x.answer) q))
-      go (accepted s) (accepts p) q = (p.0, ap accepted p.1)
+pub start-accepted : (z : Result Script) {r : Found} → accepted r ≡ mapped found_of z → r.start ≡ start_of z
+unfolding start_of
+start-accepted z e =
+    let (s, is, told) = unmapped-accepted found_of z e in
+    rw is (ap (λ (x : Found). x.start) told)
 
-  pub found-start : r.start ≡ start_of z
-  unfolding found_of start_of
-  found-start = go z e
-    where
-      go : (y : Result Script) → r ≡ found_of y → r.start ≡ start_of y
-      go (refused number) q = ap (λ (x : Found). x.start) q
-      go (accepted s) q = ap (λ (x : Found). x.start) q
-
--- What is known where the bytes were parsed, with the parts that the code takes.
+-- What is known of the bytes of a script that was read, with the parts that the code takes.
 pub record FoundIn (bytes : List ℕ) (r : Found) : Type 0 where
   pub tested : Tested bytes
-  pub is_found : r ≡ found_of (accepted (decoded bytes))
+  pub is_found : r ≡ found_of (decoded bytes)
   pub count : r.events ≡ event_count bytes
   pub few : r.events ≤ event_limit
-  pub long : length bytes ≡ 11 + 3 * r.events
   pub kinds : take (11 + r.events - 11) (drop 11 bytes) ≡ (decoded bytes).kinds
   pub operands : take (length bytes - (11 + r.events)) (drop (11 + r.events) bytes) ≡ (decoded bytes).operands
 
-pub found_in : (bytes : List ℕ) (z : Result Script) (r : Found) → Satisfies Positive (Parsed bytes) z → r ≡ found_of z → r.answer ≡ 0 → FoundIn bytes r
-unfolding found_of
-found_in bytes z r t e h =
-    let w = found-accepted z r e bytes t h in
-    let q : r ≡ found_of (accepted (decoded bytes)) = e ∙ ap found_of w.1 in
-    let s = sized-tell (event_count bytes) (length bytes) w.0.counted in
-    let k : r.events ≡ event_count bytes = ap (λ (x : Found). x.events) q ∙ kinds-length bytes w.0.counted in
+found_in : (bytes : List ℕ) (r : Found) → Tested bytes → r ≡ found_of (decoded bytes) → FoundIn bytes r
+found_in bytes r t e =
+    let s = sized-tell (event_count bytes) (length bytes) t.counted in
+    let k : r.events ≡ event_count bytes = ap (λ (x : Found). x.events) e ∙ kinds-length bytes t.counted in
     record {
-      tested = w.0;
-      is_found = q;
+      tested = t;
+      is_found = e;
       count = k;
       few = omega (arith, k, s.0);
-      long = omega (arith, k, s.1);
-      kinds = kinds-part bytes r.events k w.0.counted;
-      operands = operands-part bytes r.events k w.0.counted;
+      kinds = kinds-part bytes r.events k t.counted;
+      operands = operands-part bytes r.events k t.counted;
     }
 
-pub parsed-in : (bytes : List ℕ) (r : Found) → r ≡ found_of (parsing bytes) → r.answer ≡ 0 → FoundIn bytes r
-parsed-in bytes r e h = found_in bytes (parsing bytes) r (parsing-ends bytes) e h
+-- It is told of a script that it reads: so it does.
+pub told-found : (bytes : List ℕ) (z : Result Script) (r : Found) → Satisfies AnyNumber (Parsed bytes) z → accepted r ≡ mapped found_of z
+    → FoundIn bytes r × (z ≡ accepted (decoded bytes))
+told-found bytes z r t e =
+    let (s, is, told) = unmapped-accepted found_of z e in
+    let (tested, same) = satisfies-accepted z s t is in
+    (found_in bytes r tested (told ∙ ap found_of same), is ∙ ap accepted same)
+
+pub parsed-in : (bytes : List ℕ) (r : Found) → accepted r ≡ mapped found_of (parsing bytes) → FoundIn bytes r
+parsed-in bytes r e = (told-found bytes (parsing bytes) r (parsing-ends bytes) e).0
 
 -- The contract of reading, by how it ends.
 module _ {T : Type 0} (tell : Result Script → T) (z : Result Script) (kinds operands : List ℕ) (told : T) where
@@ -227,23 +226,22 @@ module _ {T : Type 0} (tell : Result Script → T) (z : Result Script) (kinds op
   unfolding Reads mapped put_into
   reads-accepted s kinds' operands' h e hk ho p q = rw h (e, p ∙ sets_over kinds s.kinds hk, q ∙ sets_over operands s.operands ho)
 
--- What a caller of `read` learns with the answer 0: the first places of the arrays hold the script.
+-- What a caller of `read` learns where the script was read: the first places of the arrays hold it.
 module _ (bytes kinds operands : List ℕ) (r : Found) (kinds' operands' : List ℕ)
-    (h : Reads found_of (reading bytes (length kinds) (length operands)) kinds operands r kinds' operands') where
+    (h : Reads (mapped found_of) (reading bytes (length kinds) (length operands)) kinds operands (accepted r) kinds' operands') where
   pub record InArrays : Type 0 where
     pub ended : reading bytes (length kinds) (length operands) ≡ accepted (decoded bytes)
     pub told : FoundIn bytes r
     pub kinds-after : kinds' ≡ over (decoded bytes).kinds kinds
     pub operands-after : operands' ≡ over (decoded bytes).operands operands
 
-  pub reads-script : r.answer ≡ 0 → InArrays
+  pub reads-script : InArrays
   unfolding Reads mapped put_into
-  reads-script z =
-      let result = reading bytes (length kinds) (length operands) in
-      let w = found-accepted result r h.0 bytes (reading-ends bytes (length kinds) (length operands)) z in
+  reads-script =
+      let w = told-found bytes (reading bytes (length kinds) (length operands)) r (reading-ends bytes (length kinds) (length operands)) h.0 in
       record {
         ended = w.1;
-        told = found_in bytes result r (reading-ends bytes (length kinds) (length operands)) h.0 z;
+        told = w.0;
         kinds-after = h.1 ∙ ap (λ (x : Result Script). put_into (mapped (λ s. s.kinds) x) kinds) w.1;
         operands-after = h.2 ∙ ap (λ (x : Result Script). put_into (mapped (λ s. s.operands) x) operands) w.1;
       }
@@ -261,10 +259,10 @@ module _ (s : Script) where
   writing-accepted room l =
       refuse-passes 10 _ _ l.counted ∙ refuse-passes 1 _ _ l.opens ∙ refuse-passes 11 _ _ (ap not l.all) ∙ refuse-passes 12 _ _ l.fits
 
-  pub writing-ends : (room : ℕ) → Satisfies Positive (λ bytes. Listed room × (bytes ≡ encoded s)) (writing s room)
+  pub writing-ends : (room : ℕ) → Satisfies AnyNumber (λ bytes. Listed room × (bytes ≡ encoded s)) (writing s room)
   unfolding writing
   writing-ends room =
-      satisfies-refuse 10 _ _ (omega arith) (λ counted. satisfies-refuse 1 _ _ (omega arith) (λ opens. satisfies-refuse 11 _ _ (omega arith) (λ all. satisfies-refuse 12 _ _ (omega arith) (λ fits.
+      satisfies-refuse 10 _ _ tt (λ counted. satisfies-refuse 1 _ _ tt (λ opens. satisfies-refuse 11 _ _ tt (λ all. satisfies-refuse 12 _ _ tt (λ fits.
       accepts (record { counted = counted; opens = opens; all = not-false _ all; fits = fits }, refl)))))
 
   pub writing-tells : (room : ℕ) (bytes : List ℕ) → writing s room ≡ accepted bytes → Listed room × (bytes ≡ encoded s)
@@ -286,14 +284,11 @@ module _ (s : Script) where
   unfolding encoded little_endian
   encoded-put out = sets-append _ 11 s.kinds s.operands
 
-  -- What a caller of `write` learns with the answer 0: the script is written.
-  pub puts-script : (out out' : List ℕ) (r : Written) → Puts written_of (writing s (length out)) out r out' → r.answer ≡ 0
-      → (writing s (length out) ≡ accepted (encoded s)) × (r.bytes ≡ length (encoded s)) × (out' ≡ over (encoded s) out)
-  unfolding Puts written_of mapped put_into
-  puts-script out out' r h z = go (writing s (length out)) (writing-ends (length out)) h
-    where
-      go : (y : Result (List ℕ)) → Satisfies Positive (λ bytes. Listed (length out) × (bytes ≡ encoded s)) y → (r ≡ written_of (mapped length y)) × (out' ≡ put_into y out)
-          → (y ≡ accepted (encoded s)) × (r.bytes ≡ length (encoded s)) × (out' ≡ over (encoded s) out)
-      go (refused number) (refuses p) q = absurd (omega (arith, p, z, ap (λ (x : Written). x.answer) q.0))
-      go (accepted bytes) (accepts p) q =
-          (ap accepted p.1, ap (λ (x : Written). x.bytes) q.0 ∙ ap length p.1, q.1 ∙ ap (λ (b : List ℕ). over b out) p.1)
+  -- What a caller of `write` learns where it was not turned down: the script is written.
+  pub puts-script : (out out' : List ℕ) (bytes : ℕ) → Puts (λ bytes. bytes) (writing s (length out)) out (accepted bytes) out'
+      → (writing s (length out) ≡ accepted (encoded s)) × (bytes ≡ length (encoded s)) × (out' ≡ over (encoded s) out)
+  unfolding Puts put_into
+  puts-script out out' bytes h =
+      let (written, is, told) = unmapped-accepted length (writing s (length out)) h.0 in
+      let (listed, same) = writing-tells (length out) written is in
+      (is ∙ ap accepted same, told ∙ ap length same, h.1 ∙ ap (λ z. put_into z out) (is ∙ ap accepted same))

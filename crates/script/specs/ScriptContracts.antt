@@ -3,16 +3,11 @@ use Rattle.std.specs.Prelude.{ℕ, ◌*◌, ◌≡◌, List, length, take}
 use Rattle.base.specs.Results.{Result, refused, accepted, mapped}
 use Rattle.codec.specs.Bytes.{put_into}
 use Rattle.script.specs.declared.Found.{Found}
-use Rattle.script.specs.declared.Written.{Written}
 use Rattle.script.specs.Script.{Script, script}
 
-abbrev pub found : (start events answer n : ℕ) → Found
-found start events answer n = record { start = start; events = events; answer = answer; n = n }
-
--- What reading tells: the start, E and n, or the number of the refusal.
-unfoldable pub found_of : Result Script → Found
-found_of (refused number) = found 0 0 number 0
-found_of (accepted s) = found s.start (length s.kinds) 0 s.n
+-- What is told of a script that reads: its start, E and n.
+abbrev pub found_of : Script → Found
+found_of s = record { start = s.start; events = length s.kinds; n = s.n }
 
 -- The start of a script that reads, and 0 for every other: a start that is read is never 0.
 unfoldable pub start_of : Result Script → ℕ
@@ -28,11 +23,3 @@ Reads tell result kinds operands told kinds' operands' =
 -- The script that reading left at the start of the two arrays.
 abbrev pub in_arrays : Found → (kinds operands : List ℕ) → Script
 in_arrays r kinds operands = script r.n r.start (take r.events kinds) (take (2 * r.events) operands)
-
-abbrev pub written : (bytes answer : ℕ) → Written
-written bytes answer = record { bytes = bytes; answer = answer }
-
--- What writing tells: how many bytes it wrote, or the number of the refusal.
-unfoldable pub written_of : Result ℕ → Written
-written_of (refused number) = written 0 number
-written_of (accepted bytes) = written bytes 0

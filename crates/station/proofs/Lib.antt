@@ -1,3 +1,4 @@
 pub mod Laws
 pub mod ReplyLaws
 pub mod RequestLaws
+pub mod Unchanged

@@ -17,18 +17,20 @@ pub fn silent(p: Packet, held: Holding, answer: u32) -> Reaction
     Reaction {
         holding: held,
         packet: p,
-        answer: answer,
+        answer,
         scope: 0,
     }
 }
 
 // The record, of which a reply was passed on.
+#[tactic(auto, unfolding(network::specs::View::record_of, model::specs::Calls::mark_passed))]
 fn passed(kept: Record) -> Record
     ensures { record_of result ≡ mark_passed (record_of kept) }
 {
-    let mut next = kept;
-    next.passed = true;
-    next
+    Record {
+        passed: true,
+        ..kept
+    }
 }
 
 // The receiver's reply to x, with its label, not numbered.
@@ -36,25 +38,21 @@ fn reply_to(p: Packet, x: u8, label: Label) -> Packet
     ensures result_value { body_of result ≡ reply (record { source = p.source; number = p.number.0; destination = p.destination; label = label }) }
     ensures sender_value { (result.sender ≡ p.receiver) × (result.receiver ≡ x) }
 {
-    let i = p.receiver;
-    let source = p.source;
-    let number = p.number;
-    let destination = p.destination;
-    addressed(reply(source, number, destination, label), i, x)
+    let body = reply(p.source, p.number, p.destination, label);
+    addressed(body, p.receiver, x)
 }
 
 // The receiver sends x a reply with its label, and marks its record.
 pub fn replying(p: Packet, held: Holding, answer: u32, x: u8) -> Reaction
     ensures { (net : Network) → Holds net p held → reacts result p net ≡ reply_to answer p.receiver x p.source p.number.0 p.destination net }
 {
-    let label = held.label;
-    let kept = held.kept;
-    let mut next = held;
-    next.kept = passed(kept);
     Reaction {
-        holding: next,
-        packet: reply_to(p, x, label),
-        answer: answer,
+        holding: Holding {
+            kept: passed(held.kept),
+            ..held
+        },
+        packet: reply_to(p, x, held.label),
+        answer,
         scope: 1,
     }
 }

@@ -12,18 +12,16 @@ use network::links::neighbour_count;
 use network::packets::{append, broadcast, remove, replace};
 use validation::AIR_LIMIT;
 
-// How many packets that is.
+// How many packets that is. The scope is a number, as these functions take any: 0, 1, and every other is 2.
 pub fn copies(scope: u8, links: [bool; 256], n: u8, a: u8) -> u8
     requires { (n ≤ 16) × (a < 16) }
     ensures { (p : Packet) → result ≡ length (sent_by scope links n a p) }
 {
-    if scope == 0 {
-        return 0;
+    match scope {
+        0 => 0,
+        1 => 1,
+        _ => neighbour_count(links, n, a),
     }
-    if scope == 1 {
-        return 1;
-    }
-    neighbour_count(links, n, a)
 }
 
 // The packets with these from place `count` on.
@@ -40,13 +38,11 @@ pub fn transmit(
     requires p_bound { count + length (sent_by scope links n a p) ≤ air_limit }
     ensures { packets_of result (count + length (sent_by scope links n a p)) ≡ packets_of packets count ++ sent_by scope links n a p }
 {
-    if scope == 0 {
-        return packets;
+    match scope {
+        0 => packets,
+        1 => append(packets, count as usize, p),
+        _ => broadcast(packets, count, links, n, a, p),
     }
-    if scope == 1 {
-        return append(packets, count as usize, p);
-    }
-    broadcast(packets, count, links, n, a, p)
 }
 
 // The packets without packet k, which is one of the first `last` + 1, and with these from place `last` on.
@@ -66,21 +62,16 @@ pub fn exchange(
         ≡ remove_at k (packets_of packets (last + 1)) ++ sent_by scope links n a p }
 {
     let place = last as usize;
-    if scope == 0 {
-        return remove(packets, place, k);
+    match scope {
+        0 => remove(packets, place, k),
+        1 => replace(packets, place, k, p),
+        _ => broadcast(remove(packets, place, k), last, links, n, a, p),
     }
-    if scope == 1 {
-        return replace(packets, place, k, p);
-    }
-    broadcast(remove(packets, place, k), last, links, n, a, p)
 }
 
 // The scope of an error with this mask: nobody where no row was emptied.
 pub fn error_scope(mask: u16) -> u8
     ensures { (net : Network) (a : ℕ) (p : Packet) → body_of p ≡ error mask → p.serial ≡ next_serial net a → sent_by result net.links net.n a p ≡ errors net a mask }
 {
-    if mask == 0 {
-        return 0;
-    }
-    2
+    if mask == 0 { 0 } else { 2 }
 }

@@ -6,7 +6,7 @@ use Rattle.base.specs.Results.{Result, refused, accepted}
 use Rattle.model.specs.Memory.{Network, memory_in_range, Sized}
 use Rattle.model.specs.Calls.{Call, Effect, effect, after, step}
 use Rattle.model.proofs.Refusals.{OnMemory, out_of_range}
-use Rattle.model.proofs.Steps.{accepted-in-range}
+use Rattle.model.proofs.Steps.{accepted-in-range, accepted-sized}
 use Rattle.network.specs.declared.Memory.{Memory}
 use Rattle.network.specs.View.{view}
 use Rattle.steps.specs.declared.Done.{Done}
@@ -45,6 +45,15 @@ module _ (memory : Memory) where
   unfolding Called
   called-in-range (refused k) r h m = ap (λ (d : Done). memory_in_range (view d.memory)) h ∙ m
   called-in-range (accepted e) r h m = h.1
+
+-- It leaves tables of their sizes.
+pub called-sized : (memory : Memory) (c : Call) (r : Done) → Sized (view memory) → Called memory (step c (view memory)) r → Sized (view r.memory)
+unfolding Called
+called-sized memory c r sized h = go (step c (view memory)) refl h
+  where
+    go : (z : Result Effect) → step c (view memory) ≡ z → Called memory z r → Sized (view r.memory)
+    go (refused k) e h = subst (λ (d : Done). Sized (view d.memory)) (sym h) sized
+    go (accepted x) e h = subst (λ (y : Effect). Sized y.net) (sym h.0) (accepted-sized (view memory) sized c x e)
 
 -- Free places decide nothing: calls on two memories with one reading end alike.
 pub called-alike : (x y : Memory) (c : Call) (p q : Done) → view x ≡ view y → Called x (step c (view x)) p → Called y (step c (view y)) q → effect_of p ≡ effect_of q

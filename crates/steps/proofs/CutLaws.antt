@@ -1,5 +1,5 @@
 -- Two stations taken out of each other's rows, one destination after the other.
-use Prim.Native.Nat.{ℕ, ◌+◌, ◌^◌, ◌≤◌, ◌<◌}
+use Prim.Native.Nat.{ℕ, ◌+◌, ◌^◌, ◌<◌}
 use mathlib.Core.Path.{◌≡◌, refl, sym, ap, ◌∙◌}
 use mathlib.Core.Logic.{◌≢◌}
 use mathlib.Core.Bool.{Bool, true, false, ◌&&◌, ◌||◌}
@@ -22,16 +22,11 @@ use Rattle.network.proofs.ViewLaws.{row-at}
 use Rattle.decisions.specs.declared.cutting.Cut.{Cut}
 use Rattle.decisions.specs.declared.cutting.Losses.{Losses}
 use Rattle.decisions.specs.Cutting.{leaves_by}
+use Rattle.steps.specs.Cutting.{Lost, CutRows}
 
 -- One row, masked or not.
 abbrev pub cut_row : Bool → (Successor → Bool) → model.Row → model.Row
 cut_row masked leaves r = if masked then without leaves r else r
-
--- The masks of the rows emptied below t, and whether any row lost an entry.
-pub record Lost (cut : Cut) (rows : List model.Row) (t : ℕ) (losses : Losses) : Type 0 where
-  pub emptied-is : losses.emptied ≡ emptied (bit cut.mask) (leaves_by cut cut.second) cut.first t rows
-  pub others-are : losses.others ≡ emptied (bit cut.others) (leaves_by cut cut.first) cut.second t rows
-  pub removed-is : losses.removed ≡ removes (bit cut.mask) (leaves_by cut cut.second) cut.first t rows || removes (bit cut.others) (leaves_by cut cut.first) cut.second t rows
 
 or-pairs : (a b c d : Bool) → ((a || b) || c) || d ≡ (a || c) || (b || d)
 or-pairs true b c d = refl
@@ -73,12 +68,6 @@ module _ {cut : Cut} {rows : List model.Row} where
     lost-alone other none p e f g =
         let off : bit cut.others t ≡ false = ap (λ (x : ℕ). bit x t) none ∙ never t in
         lost-more p refl e (rw off (rw off at f)) (rw off (rw off at g))
-
--- The rows with those of both stations cut below u, and as they were from u on.
-pub record CutRows (cut : Cut) (before : List Row) (u : ℕ) (rows : List Row) : Type 0 where
-  pub taken : map row_of rows ≡ take_out (bit cut.others) (leaves_by cut cut.first) cut.second u (take_out (bit cut.mask) (leaves_by cut cut.second) cut.first u (map row_of before))
-  pub mine : (t : ℕ) → u ≤ t → t < 16 → get_or rows (place cut.first t) zero_row ≡ get_or before (place cut.first t) zero_row
-  pub theirs : (t : ℕ) → u ≤ t → t < 16 → get_or rows (place cut.second t) zero_row ≡ get_or before (place cut.second t) zero_row
 
 module _ {cut : Cut} (apart : cut.first ≢ cut.second) {before : List Row} where
   pub cut-none : CutRows cut before 0 before

@@ -37,57 +37,53 @@ use Rattle.decisions.specs.declared.cutting.Losses.{Losses}
 use Rattle.decisions.specs.Cutting.{leaves_by, ErrorCuts}
 use Rattle.refusing.specs.Refusing.{Passes}
 use Rattle.steps.proofs.PacketMoves.{remove_at-length}
-use Rattle.steps.proofs.RunLaws.{airing, shape-sized}
 use Rattle.steps.proofs.ArmLaws.{Does, Tested, known, passes}
 use Rattle.steps.proofs.AirLaws.{serials-long, packet-there}
-use Rattle.steps.proofs.CutLaws.{Lost}
+use Rattle.steps.specs.Cutting.{Lost}
 
-module _ {memory : Memory} {packets : List Packet} {count kind a b r : ℕ} (h : Tested memory packets count kind a b r) (zero : r ≡ 0) (e : kind ≡ 6) where
-  abbrev m : Memory
-  m = airing memory packets count
-
-  abbrev ranged : Ranged m
+module _ {memory : Memory} {kind a b : ℕ} (h : Tested memory kind a b) (e : kind ≡ 6) where
+  abbrev ranged : Ranged memory
   ranged = known h
 
-  delivers : (event_of kind a b ≡ calls (Deliver a)) × Passes (Deliver a) (view m)
-  delivers = passes h zero (Deliver a) (λ q. omega arith) (call-6 kind a b e)
+  delivers : (event_of kind a b ≡ calls (Deliver a)) × Passes (Deliver a) (view memory)
+  delivers = passes h (Deliver a) (λ q. omega arith) (call-6 kind a b e)
 
-  pub arrives : (a < count) × (a % 128 ≡ a)
+  pub arrives : (a < memory.air.count) × (a % 128 ≡ a)
   unfolding Passes
-  arrives = packet-there h zero delivers.1
+  arrives = packet-there h delivers.1
 
   abbrev p : Packet
-  p = get_or packets (a % 128) zero_packet
+  p = get_or memory.air.packets (a % 128) zero_packet
 
   pub carried : Carried memory.n p
   carried = rw arrives.1 (ranged.packet a arrives.0)
 
   -- The other packets.
   abbrev pub rest : List model.Packet
-  rest = remove_at a (packets_of packets count)
+  rest = remove_at a (packets_of memory.air.packets memory.air.count)
 
-  pub rest-length : length rest ≡ count - 1
-  rest-length = remove_at-length packets count a arrives.0
+  pub rest-length : length rest ≡ memory.air.count - 1
+  rest-length = remove_at-length memory.air.packets memory.air.count a arrives.0
 
   abbrev pub flying : model.Network
-  flying = set_air rest (view m)
+  flying = set_air rest (view memory)
 
-  pub delivered : step (Deliver a) (view m) ≡ limited (view m) (receive p.receiver p.sender p.serial (body_of p) flying)
+  pub delivered : step (Deliver a) (view memory) ≡ limited (view memory) (receive p.receiver p.sender p.serial (body_of p) flying)
   unfolding Passes deliver_by remove_packet view packet_of
   delivered =
-      deliver-limited (view m) h.ranged a delivers.1
-      ∙ ap (limited (view m)) (rw (packets-at packets count a model.zero_packet arrives.0, arrives.1))
+      deliver-limited (view memory) h.passed.known.ranged a delivers.1
+      ∙ ap (limited (view memory)) (rw (packets-at memory.air.packets memory.air.count a model.zero_packet arrives.0, arrives.1))
 
   -- Its receiver sends these packets, in a network that has the memory's serial numbers and the other packets.
   deliver-does : (answer : ℕ) (sent : List model.Packet) (net : model.Network) → net.serials ≡ memory.serials → net.air ≡ rest → net.limit ≡ memory.limit
-      → step (Deliver a) (view m) ≡ limited (view m) (sending answer p.receiver sent net)
-      → Does m (event_of kind a b) (leb max_u64 (get_or memory.serials p.receiver 0) && ltb 0 (length sent)) (count - 1 + length sent) (sending answer p.receiver sent net)
+      → step (Deliver a) (view memory) ≡ limited (view memory) (sending answer p.receiver sent net)
+      → Does memory (event_of kind a b) (leb max_u64 (get_or memory.serials p.receiver 0) && ltb 0 (length sent)) (memory.air.count - 1 + length sent) (sending answer p.receiver sent net)
   unfolding sending send append set_air set_serials view
   deliver-does answer sent net serials air limit s = record {
     call = Deliver a;
     is = delivers.0;
     steps = s;
-    used-is = used-one (view m) (sending answer p.receiver sent net) (serials-long h) p.receiver (length sent) carried.receiver-below
+    used-is = used-one (view memory) (sending answer p.receiver sent net) (serials-long h) p.receiver (length sent) carried.receiver-below
         (ap (λ (l : List ℕ). set l p.receiver (count_on (get_or l p.receiver 0) (length sent))) serials);
     total-is = sending-length answer p.receiver sent net ∙ ap (λ (l : List model.Packet). length l + length sent) air ∙ ap (λ x. x + length sent) rest-length;
     limit_is = limit;
@@ -123,11 +119,11 @@ module _ {memory : Memory} {packets : List Packet} {count kind a b r : ℕ} (h :
     abbrev pub telling : Effect
     telling = sending (error_outcome losses.removed losses.emptied) p.receiver told-on after-error
 
-    pub error-steps : step (Deliver a) (view m) ≡ limited (view m) telling
+    pub error-steps : step (Deliver a) (view memory) ≡ limited (view memory) telling
     unfolding receive_by on_error view set_air
-    error-steps = delivered ∙ ap (limited (view m)) (rw (body-error p is-error, removed-is, gone-is))
+    error-steps = delivered ∙ ap (limited (view memory)) (rw (body-error p is-error, removed-is, gone-is))
 
-    pub error-does : Does m (event_of kind a b) (leb max_u64 (get_or memory.serials p.receiver 0) && ltb 0 (length told-on)) (count - 1 + length told-on) telling
+    pub error-does : Does memory (event_of kind a b) (leb max_u64 (get_or memory.serials p.receiver 0) && ltb 0 (length told-on)) (memory.air.count - 1 + length told-on) telling
     unfolding view set_air set_rows
     error-does = deliver-does (error_outcome losses.removed losses.emptied) told-on after-error refl refl refl error-steps
 
@@ -163,7 +159,7 @@ module _ {memory : Memory} {packets : List Packet} {count kind a b r : ℕ} (h :
     holds : Holds flying p held
     unfolding view set_air
     holds =
-        let sizes = shape-sized count h.shape in
+        let sizes = h.passed.known.sized in
         record {
           inside = record {
             receiver-below = inside.0;
@@ -172,7 +168,7 @@ module _ {memory : Memory} {packets : List Packet} {count kind a b r : ℕ} (h :
             labels_length = sizes.labels_length;
             rows-length = sizes.rows-length;
             records-length = sizes.records-length;
-            active-length = h.shape.active-length;
+            active-length = h.long.5;
           };
           label_is = label_at memory.s memory.m memory.d (place p.receiver p.destination) (omega (arith, inside))
               ∙ sym (label_is ∙ ap (label_of memory.s memory.m memory.d) cell-is);
@@ -188,24 +184,24 @@ module _ {memory : Memory} {packets : List Packet} {count kind a b r : ℕ} (h :
       abbrev pub reacting : Effect
       reacting = sending f.answer p.receiver sent (holding p f.holding flying)
 
-      pub reaction-steps : step (Deliver a) (view m) ≡ limited (view m) reacting
+      pub reaction-steps : step (Deliver a) (view memory) ≡ limited (view memory) reacting
       unfolding reacts view set_air
       reaction-steps =
           delivered
-          ∙ ap (limited (view m)) (sym (reacted flying holds (record { number_is = number_at memory.numbers p.receiver; sought-is = refl }) refl) ∙ rw sends)
+          ∙ ap (limited (view memory)) (sym (reacted flying holds (record { number_is = number_at memory.numbers p.receiver; sought-is = refl }) refl) ∙ rw sends)
 
-      pub reaction-does : Does m (event_of kind a b) (leb max_u64 (get_or memory.serials p.receiver 0) && ltb 0 (length sent)) (count - 1 + length sent) reacting
+      pub reaction-does : Does memory (event_of kind a b) (leb max_u64 (get_or memory.serials p.receiver 0) && ltb 0 (length sent)) (memory.air.count - 1 + length sent) reacting
       unfolding holding view set_air set_labels set_rows set_records set_actives
       reaction-does = deliver-does f.answer sent (holding p f.holding flying) refl refl refl reaction-steps
 
-      pub reaction-done : (packets' : List Packet) → packets_of packets' (count - 1 + length sent) ≡ rest ++ sent
+      pub reaction-done : (packets' : List Packet) → packets_of packets' (memory.air.count - 1 + length sent) ≡ rest ++ sent
           → effect f.answer (length sent) (view (record {
             s = set memory.s cell f.holding.label.s.0;
             m = set memory.m cell f.holding.label.m;
             d = set memory.d cell f.holding.label.d;
             rows = set memory.rows cell f.holding.row;
             records = set memory.records slot f.holding.kept;
-            air = record { packets = packets'; count = count - 1 + length sent };
+            air = record { packets = packets'; count = memory.air.count - 1 + length sent };
             numbers = memory.numbers;
             sought = memory.sought;
             active = set memory.active p.receiver f.holding.active;
@@ -217,7 +213,7 @@ module _ {memory : Memory} {packets : List Packet} {count kind a b r : ℕ} (h :
       unfolding holding view set_air set_labels set_rows set_records set_actives sending send append set_serials
       reaction-done packets' g =
           rw (
-            labels-set memory.s memory.m memory.d h.shape.labels cell _ _ _ (omega (arith, cell-is, inside)),
+            labels-set memory.s memory.m memory.d (record { s-length = h.long.0; m-length = h.long.1; d-length = h.long.2 }) cell _ _ _ (omega (arith, cell-is, inside)),
             map-set row_of memory.rows,
             map-set record_of memory.records,
             g,

@@ -19,8 +19,8 @@ use Rattle.network.proofs.PacketLaws.{air-length}
 use Rattle.steps.specs.declared.Done.{Done}
 use Rattle.steps.specs.declared.Happened.{Happened}
 use Rattle.steps.specs.Called.{done, Called}
-use Rattle.steps.specs.Happens.{happened, Happens}
-use Rattle.steps.proofs.CallLaws.{called-out-of-range, called-after, called-in-range}
+use Rattle.steps.specs.Happens.{happened, Happens, InRange}
+use Rattle.steps.proofs.CallLaws.{called-out-of-range, called-after, called-in-range, called-sized}
 
 module _ (memory : Memory) (e : Event) where
   -- No event, a Trace, and a call.
@@ -59,6 +59,14 @@ module _ (memory : Memory) where
   happens-in-range (calls c) r h m = called-in-range memory (step c (view memory)) (done r.memory r.answer r.sent) h.0 m
   happens-in-range (traces a t) r h m = ap (λ (x : Happened). memory_in_range (view x.memory)) h ∙ m
   happens-in-range no_event r h m = ap (λ (x : Happened). memory_in_range (view x.memory)) h ∙ m
+
+  -- It keeps memory in range, and its tables their sizes.
+  pub happens-known : (e : Event) (r : Happened) → Happens memory e r → InRange memory → InRange r.memory
+  unfolding Happens
+  happens-known (calls c) r h k =
+      record { ranged = called-in-range memory (step c (view memory)) (done r.memory r.answer r.sent) h.0 k.ranged; sized = called-sized memory c (done r.memory r.answer r.sent) k.sized h.0 }
+  happens-known (traces a t) r h k = subst (λ (x : Happened). InRange x.memory) (sym h) k
+  happens-known no_event r h k = subst (λ (x : Happened). InRange x.memory) (sym h) k
 
 -- The line of an event has the numbers that the code gave, and its packets in the air are counted after it.
 module _ (memory : Memory) (index kind a b : ℕ) where

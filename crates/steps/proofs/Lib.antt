@@ -9,7 +9,6 @@ pub mod DeliverLaws
 pub mod ChangeLaws
 pub mod CutLaws
 pub mod PartingLaws
-pub mod SingleLaws
 pub mod TraceLaws
 pub mod ToldLaws
 pub mod TurnFacts

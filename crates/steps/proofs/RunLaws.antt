@@ -3,7 +3,7 @@ use Prim.Native.Nat.{ℕ, zero, suc, ◌+◌, ◌*◌, ◌≤◌, ◌<◌}
 use mathlib.Core.Path.{◌≡◌, refl, sym, ap, subst, ◌∙◌}
 use mathlib.Core.Bool.{Bool, true, false}
 use mathlib.Core.List.{List, [], ◌∷◌, ◌++◌}
-use lib.ListN.{length, get_or, set, length-map, length-set}
+use lib.ListN.{length, get_or, set, length-set}
 use lib.Seq.{sets}
 use native.Mathlib.Omega.{arith}
 use borrow.Author.Tests.{ltb-true, ltb-false}
@@ -12,7 +12,7 @@ use Rattle.base.specs.Lists.{tabulate}
 use Rattle.base.proofs.Booleans.{clash, Trichotomy, less, equal, more, trichotomy}
 use Rattle.base.proofs.Loops.{tabulate-length, tabulate-more}
 use Rattle.codec.proofs.ByteLaws.{sets-next}
-use Rattle.model.specs.Memory.{memory_in_range, air_limit, Sized}
+use Rattle.model.specs.Memory.{memory_in_range, Sized}
 use Rattle.model.specs.Calls.{run_by, run}
 use Rattle.model.specs.Events.{event_of, event_at, calls_in, event_limit, after_events_by, after_events}
 use Rattle.model.specs.Printout.{Line, line, line_at}
@@ -21,72 +21,21 @@ use Rattle.model.proofs.EventLaws.{after_more}
 use Rattle.draining.specs.declared.Event.{Event}
 use Rattle.draining.specs.Draining.{turn_limit}
 use Rattle.draining.proofs.Ending.{most-turns}
-use Rattle.rows.specs.View.{row_of}
 use Rattle.network.specs.declared.Packet.{Packet}
 use Rattle.network.specs.declared.Memory.{Memory}
-use Rattle.network.specs.View.{record_of, label_of, view, Lengths}
-use Rattle.network.proofs.ViewLaws.{Labels}
+use Rattle.network.specs.View.{view}
 use Rattle.network.proofs.PacketLaws.{air-length}
-use Rattle.network.proofs.Ranged.{Ranged, in-range-ranged}
 use Rattle.steps.specs.declared.Happened.{Happened}
-use Rattle.steps.specs.Happens.{happened, Happens}
+use Rattle.steps.specs.Happens.{happened, Happens, InRange}
 use Rattle.telling.specs.Lines.{packed, Fits, Packs}
 use Rattle.steps.specs.Ran.{Ran, told, ToldFit, RunEnds}
 use Rattle.steps.specs.Source.{Listed, Next, goes_on, line_place}
-use Rattle.steps.proofs.HappenLaws.{happens-after, happens-in-range, happens-line}
+use Rattle.steps.proofs.HappenLaws.{happens-after, happens-in-range, happens-known, happens-line}
 use Rattle.steps.proofs.DrainLaws.{DrainSoFar, drain-none, drain-below, drain-lost, drain-more, drain-ends}
 
 -- The memory with these packets in the air.
-abbrev pub airing : Memory → List Packet → ℕ → Memory
-airing m packets count = record {
-  s = m.s;
-  m = m.m;
-  d = m.d;
-  rows = m.rows;
-  records = m.records;
-  air = record { packets = packets; count = count };
-  numbers = m.numbers;
-  sought = m.sought;
-  active = m.active;
-  links = m.links;
-  n = m.n;
-  serials = m.serials;
-  limit = m.limit;
-}
-
--- The tables have their sizes.
-pub record Shape (m : Memory) (packets : List Packet) : Type 0 where
-  pub labels : Labels m.s m.m m.d
-  pub rows-length : length m.rows ≡ 256
-  pub records-length : length m.records ≡ 256
-  pub sought-length : length m.sought ≡ 16
-  pub active-length : length m.active ≡ 16
-  pub serials-length : length m.serials ≡ 16
-  pub packets-length : length packets ≡ air_limit
-
-pub lengths-shape : {m : Memory} → Lengths m → Shape m m.air.packets
-lengths-shape long = record {
-  labels = record { s-length = long.s-length; m-length = long.m-length; d-length = long.d-length };
-  rows-length = long.rows-length;
-  records-length = long.records-length;
-  sought-length = long.sought-length;
-  active-length = long.active-length;
-  serials-length = long.serials-length;
-  packets-length = long.air-length;
-}
-
-module _ {m : Memory} {packets : List Packet} (count : ℕ) (w : Shape m packets) where
-  pub shape-sized : Sized (view (airing m packets count))
-  unfolding view
-  shape-sized = record {
-    labels_length = tabulate-length 256 (label_of m.s m.m m.d);
-    rows-length = length-map m.rows row_of ∙ w.rows-length;
-    records-length = length-map m.records record_of ∙ w.records-length;
-    sought-length = w.sought-length;
-  }
-
-  pub shape-ranged : memory_in_range (view (airing m packets count)) ≡ true → Ranged (airing m packets count)
-  shape-ranged h = in-range-ranged (airing m packets count) shape-sized h
+abbrev pub with_air : Memory → List Packet → ℕ → Memory
+with_air m packets count = record m { air = record { packets = packets; count = count } }
 
 one_more : (i : ℕ) → i + 1 ≡ suc i
 one_more i = omega arith
@@ -169,12 +118,11 @@ abbrev SoFar : (drains : Bool) → Memory → (kinds operands lines lines' : Lis
 SoFar false memory kinds operands lines lines' now lost i = ListSoFar memory kinds operands lines lines' now i
 SoFar true memory kinds operands lines lines' now lost i = DrainSoFar memory lines' now lost i
 
-pub record Turn (drains : Bool) (memory : Memory) (kinds operands lines lines' : List ℕ) (next : Memory) (packets : List Packet) (count lost i : ℕ) : Type 0 where
-  pub shape : Shape next packets
-  pub ranged : memory_in_range (view (airing next packets count)) ≡ true
+pub record Turn (drains : Bool) (memory : Memory) (kinds operands lines lines' : List ℕ) (next : Memory) (lost i : ℕ) : Type 0 where
+  pub known : InRange next
   pub same_length : length lines' ≡ length lines
   pub few-lost : lost ≤ i
-  pub so_far : SoFar drains memory kinds operands lines lines' (airing next packets count) lost i
+  pub so_far : SoFar drains memory kinds operands lines lines' next lost i
 
 -- The most events that a run can have.
 unfoldable pub most_events : (drains : Bool) → Memory → List ℕ → ℕ
@@ -192,15 +140,19 @@ turn-listed false count i events g d = ltb-true i events g
 
 -- A list has at most 4,096 events, and a run that drains the air is told of in one place.
 pub record Begins (drains : Bool) (memory : Memory) (kinds lines : List ℕ) : Type 0 where
-  pub shape : Shape memory memory.air.packets
-  pub ranged : memory_in_range (view memory) ≡ true
+  pub known : InRange memory
   pub short : length kinds ≤ event_limit
   pub room : length kinds ≤ length lines
   pub one_line : drains ≡ true → lines ≡ 0 ∷ []
 
+pub begins : {drains : Bool} {memory : Memory} {kinds lines : List ℕ} (operands : List ℕ) → Sized (view memory) → memory_in_range (view memory) ≡ true
+    → (length kinds ≤ event_limit) × (length operands ≡ 2 * length kinds) × (length kinds ≤ length lines) → (drains ≡ true → lines ≡ 0 ∷ [])
+    → Begins drains memory kinds lines
+begins operands sized ranged lengths one = record { known = record { ranged = ranged; sized = sized }; short = lengths.0; room = lengths.2; one_line = one }
+
 module _ {memory : Memory} {kinds lines : List ℕ} where
   begins-invariant : {drains : Bool} → Begins drains memory kinds lines → Invariant ⊥ (view memory)
-  begins-invariant b = in-range-invariant (view memory) b.ranged (shape-sized memory.air.count b.shape)
+  begins-invariant b = in-range-invariant (view memory) b.known.ranged b.known.sized
 
   pub few-events : (drains : Bool) → Begins drains memory kinds lines → most_events drains memory kinds ≤ 138_272
   unfolding most_events view
@@ -208,57 +160,62 @@ module _ {memory : Memory} {kinds lines : List ℕ} where
   few-events false b = omega (arith, b.short)
 
 module _ {memory : Memory} {kinds operands lines : List ℕ} where
-  pub turn-none : (drains : Bool) → Begins drains memory kinds lines → Turn drains memory kinds operands lines lines memory memory.air.packets memory.air.count 0 0
-  turn-none drains b = record { shape = b.shape; ranged = b.ranged; same_length = refl; few-lost = omega arith; so_far = start drains b }
+  pub turn-none : (drains : Bool) → Begins drains memory kinds lines → Turn drains memory kinds operands lines lines memory 0 0
+  turn-none drains b = record { known = b.known; same_length = refl; few-lost = omega arith; so_far = start drains b }
     where
       start : (drains : Bool) → Begins drains memory kinds lines → SoFar drains memory kinds operands lines lines memory 0 0
       start true b = drain-none memory lines (begins-invariant b) (b.one_line refl)
       start false b = list-none
 
-  module _ {lines' : List ℕ} {next : Memory} {packets : List Packet} {count lost i : ℕ} where
+  module _ {lines' : List ℕ} {next : Memory} {lost i : ℕ} where
     -- There is a next event.
-    pub turn_below : (drains : Bool) → Turn drains memory kinds operands lines lines' next packets count lost i → Begins drains memory kinds lines
-        → goes_on drains i (length kinds) count ≡ true → i < most_events drains memory kinds
+    pub turn_below : (drains : Bool) → Turn drains memory kinds operands lines lines' next lost i → Begins drains memory kinds lines
+        → goes_on drains i (length kinds) next.air.count ≡ true → i < most_events drains memory kinds
     unfolding most_events
-    turn_below true t b g = drain-below (begins-invariant b) t.so_far (ltb-true 0 count g)
+    turn_below true t b g = drain-below (begins-invariant b) t.so_far (ltb-true 0 next.air.count g)
     turn_below false t b g = ltb-true i (length kinds) g
 
     -- Its line has a place.
-    pub turn-room : (drains : Bool) → Turn drains memory kinds operands lines lines' next packets count lost i → Begins drains memory kinds lines
-        → goes_on drains i (length kinds) count ≡ true → {at : ℕ} → at ≡ line_place drains i → (at < length lines') × (0 < length lines')
+    pub turn-room : (drains : Bool) → Turn drains memory kinds operands lines lines' next lost i → Begins drains memory kinds lines
+        → goes_on drains i (length kinds) next.air.count ≡ true → {at : ℕ} → at ≡ line_place drains i → (at < length lines') × (0 < length lines')
     turn-room true t b g e = let l : length lines ≡ 1 = ap length (b.one_line refl) in (omega (arith, t.same_length), omega (arith, t.same_length))
     turn-room false t b g e = let l = ltb-true i (length kinds) g in (omega (arith, t.same_length, b.room), omega (arith, t.same_length, b.room))
 
     -- It loses one packet at most.
-    pub turn-lost : (drains : Bool) → Turn drains memory kinds operands lines lines' next packets count lost i → (e : Event) → Next drains kinds operands i (get_or lines' 0 0) e → e.losses ≤ 1
+    pub turn-lost : (drains : Bool) → Turn drains memory kinds operands lines lines' next lost i → (e : Event) → Next drains kinds operands i (get_or lines' 0 0) e → e.losses ≤ 1
     turn-lost true t e k = drain-lost t.so_far k
     turn-lost false t e k = omega (arith, k.losses)
 
     -- It happens.
-    pub turn_more : (drains : Bool) → Turn drains memory kinds operands lines lines' next packets count lost i → Begins drains memory kinds lines
-        → goes_on drains i (length kinds) count ≡ true → (e : Event) → Next drains kinds operands i (get_or lines' 0 0) e → {at : ℕ} → at ≡ line_place drains i
-        → {next' : Memory} {packets' : List Packet} {count' answer sent hop v : ℕ} → Packs v answer sent count' hop → Shape next' packets'
-        → Happens (airing next packets count) (event_of e.kind e.a e.b) (happened (airing next' packets' count') answer sent hop)
-        → Turn drains memory kinds operands lines (set lines' at v) next' packets' count' (lost + e.losses) (i + 1)
-    turn_more drains t b g e k {at} a {next'} {packets'} {count'} {answer} {sent} {hop} {v} is w so = record {
-      shape = w;
-      ranged = happens-in-range (airing next packets count) (event_of e.kind e.a e.b) (happened (airing next' packets' count') answer sent hop) so t.ranged;
+    pub turn_more : (drains : Bool) → Turn drains memory kinds operands lines lines' next lost i → Begins drains memory kinds lines
+        → goes_on drains i (length kinds) next.air.count ≡ true → (e : Event) → Next drains kinds operands i (get_or lines' 0 0) e → {at : ℕ} → at ≡ line_place drains i
+        → {next' : Memory} {answer sent hop v : ℕ} → Packs v answer sent next'.air.count hop
+        → Happens next (event_of e.kind e.a e.b) (happened next' answer sent hop)
+        → Turn drains memory kinds operands lines (set lines' at v) next' (lost + e.losses) (i + 1)
+    turn_more drains t b g e k {at} a {next'} {answer} {sent} {hop} {v} is so = record {
+      known = happens-known next (event_of e.kind e.a e.b) (happened next' answer sent hop) so t.known;
       same_length = length-set lines' at v ∙ t.same_length;
       few-lost = omega (arith, t.few-lost, turn-lost drains t e k);
       so_far = rest drains t b g k a;
     }
       where
-        rest : (drains : Bool) → Turn drains memory kinds operands lines lines' next packets count lost i → Begins drains memory kinds lines
-            → goes_on drains i (length kinds) count ≡ true → Next drains kinds operands i (get_or lines' 0 0) e → at ≡ line_place drains i
-            → SoFar drains memory kinds operands lines (set lines' at v) (airing next' packets' count') (lost + e.losses) (i + 1)
-        rest true t b g k a = rw a (drain-more (begins-invariant b) t.so_far (ltb-true 0 count g) (happened (airing next' packets' count') answer sent hop) is e k so)
-        rest false t b g k a = rw a (list-more t.so_far (ltb-true i (length kinds) g) e k (happened (airing next' packets' count') answer sent hop) is so)
+        rest : (drains : Bool) → Turn drains memory kinds operands lines lines' next lost i → Begins drains memory kinds lines
+            → goes_on drains i (length kinds) next.air.count ≡ true → Next drains kinds operands i (get_or lines' 0 0) e → at ≡ line_place drains i
+            → SoFar drains memory kinds operands lines (set lines' at v) next' (lost + e.losses) (i + 1)
+        rest true t b g k a = rw a (drain-more (begins-invariant b) t.so_far (ltb-true 0 next.air.count g) (happened next' answer sent hop) is e k so)
+        rest false t b g k a = rw a (list-more t.so_far (ltb-true i (length kinds) g) e k (happened next' answer sent hop) is so)
 
     -- There is no next event.
-    pub turn-ends : (drains : Bool) → Turn drains memory kinds operands lines lines' next packets count lost i → Begins drains memory kinds lines
-        → goes_on drains i (length kinds) count ≡ false → RunEnds drains memory kinds operands lines lines' (record { memory = airing next packets count; events = i; losses = lost })
-    turn-ends true t b g = drain-ends (begins-invariant b) t.so_far (ltb-false 0 count g)
+    pub turn-ends : (drains : Bool) → Turn drains memory kinds operands lines lines' next lost i → Begins drains memory kinds lines
+        → goes_on drains i (length kinds) next.air.count ≡ false → RunEnds drains memory kinds operands lines lines' (record { memory = next; events = i; losses = lost })
+    turn-ends true t b g = drain-ends (begins-invariant b) t.so_far (ltb-false 0 next.air.count g)
     turn-ends false t b g =
         let last : i ≡ length kinds = omega (arith, t.so_far.among, ltb-false i (length kinds) g) in
         let s = rw last at t.so_far in
         record { ran = s.ran; fit = s.fit; told-are = s.told-are }
+
+-- There is a next event: it is one of at most 138,272, and its line is told at a place up to its own.
+pub event-among : (drains : Bool) {memory : Memory} {kinds operands lines lines' : List ℕ} {next : Memory} {lost i at : ℕ}
+    → Turn drains memory kinds operands lines lines' next lost i → Begins drains memory kinds lines → goes_on drains i (length kinds) next.air.count ≡ true
+    → at ≡ line_place drains i → (i < most_events drains memory kinds) × (most_events drains memory kinds ≤ 138_272) × (at ≤ i)
+event-among drains turn begun goes place = (turn_below drains turn begun goes, few-events drains begun, place-most drains place)

@@ -1,4 +1,5 @@
 pub mod Called
+pub mod Cutting
 pub mod Drained
 pub mod Happens
 pub mod Parting

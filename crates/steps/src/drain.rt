@@ -27,7 +27,7 @@ pub fn drain_in_range(memory: Memory) -> Drained
     Drained {
         memory: next,
         answer: 0,
-        deliveries: deliveries,
-        losses: losses,
+        deliveries,
+        losses,
     }
 }

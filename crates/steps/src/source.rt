@@ -1,4 +1,4 @@
-// Where a run takes its events from.
+// Where a run takes its events from: one flag that every function takes, so that a run is one loop (`RunEnds`), and no closure in its contract.
 ghost use Rattle.std.specs.Prelude.{◌≡◌, false, ◌+◌, ◌*◌, ◌<◌, length};
 ghost use Rattle.steps.specs.Source.{Listed, Next, goes_on, line_place};
 
@@ -14,9 +14,9 @@ fn event_at(kinds: &[u8], operands: &[u8], i: usize) -> Event
     let a = operands[2 * i];
     let b = operands[2 * i + 1];
     Event {
-        kind: kind,
-        a: a,
-        b: b,
+        kind,
+        a,
+        b,
         losses: 0,
     }
 }

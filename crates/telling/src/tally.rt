@@ -15,44 +15,18 @@ pub struct Tally {
     pub highest: u8,
 }
 
-// The tally with one event more, after which so many packets are in the air.
-fn noted(tally: Tally, air: u8) -> Tally
-    requires { tally.calls + 1 < 2 ^ 32 }
-    ensures { result ≡ with_event tally air }
-{
-    let calls = tally.calls + 1;
-    let highest = tally.highest;
-    if highest < air {
-        return Tally {
-            calls: calls,
-            highest: air,
-        };
-    }
-    Tally {
-        calls: calls,
-        highest: highest,
-    }
-}
-
-// One event is noted in the tally that is lent.
+// One event more is noted in the tally that is lent, after which so many packets are in the air.
+#[tactic(auto, unfolding(crate::specs::Tallies::with_event))]
 pub fn note(tally: &mut Tally, air: u8)
     requires { tally.old.calls + 1 < 2 ^ 32 }
     ensures { tally.new ≡ with_event tally.old air }
 {
-    *tally = noted(*tally, air);
-}
-
-// The same by value.
-fn tallied(tally: Tally, air: u8) -> Tally
-    requires { tally.calls + 1 < 2 ^ 32 }
-    ensures { result ≡ with_event tally air }
-{
-    let mut next = tally;
-    note(&mut next, air);
-    next
+    tally.calls += 1;
+    tally.highest = tally.highest.max(air);
 }
 
 // The tally of no events.
+#[tactic(auto, unfolding(model::specs::Tally::tally_of, model::specs::Tally::highest_air))]
 pub fn no_events() -> Tally
     ensures { tally_in result ≡ tally_of [] }
 {
@@ -69,11 +43,8 @@ pub fn tally_of(lines: &[u64], count: usize) -> Tally
     ensures by_index { (line : ℕ → Line) → Told lines.now count line → tally_in result ≡ tally_of (tabulate count line) }
 {
     let mut tally = no_events();
-    let mut i = 0;
-    while i < count {
-        let air = air_of(lines[i]);
-        tally = tallied(tally, air);
-        i += 1;
+    for &line in &lines[..count] {
+        note(&mut tally, air_of(line));
     }
     tally
 }

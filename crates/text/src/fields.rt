@@ -1,4 +1,4 @@
-// Decimal fields in a lent array.
+// Decimal fields in a lent array. Not by Display: there is no heap for a String, and the width of a field is in each contract.
 ghost use Rattle.std.specs.Prelude.{◌+◌, ◌*◌, ◌%◌, ◌≤◌, ◌<◌, length};
 ghost use mathlib.Core.List.{[], ◌∷◌, flat_map};
 ghost use Rattle.text.specs.Text.{decimal, field};
@@ -75,10 +75,8 @@ pub fn put_fields(out: &mut [u8], at: usize, values: &[u64]) -> usize
     ensures upper_bound { result ≤ at + 21 * length values.now }
 {
     let mut end = at;
-    let mut i = 0;
-    while i < values.len() {
-        end = put_field(out, end, values[i]);
-        i += 1;
+    for value in values {
+        end = put_field(out, end, *value);
     }
     end
 }

@@ -27,7 +27,7 @@ pub fn put_refusal(out: &mut [u8], answer: u32) -> usize
     end + 1
 }
 
-// The line of an event, of at most 40 bytes.
+// The line of an event, of at most 40 bytes. Its parameters are those of the model's `line`, in its order.
 pub fn put_event_line(
     out: &mut [u8],
     at: usize,
@@ -65,16 +65,13 @@ pub fn put_label_line(out: &mut [u8], at: usize, i: u8, t: u8, label: Label, row
     ensures puts_at { PutsAt out.old at (label_text (label_line i t label (stations (row_of row)))) result out.new }
     ensures upper_bound { result ≤ at + 69 }
 {
-    let s = label.s.0;
-    let m = label.m;
-    let d = label.d;
     let stations = row.stations;
     let fields = [
         i as u64,
         t as u64,
-        s,
-        m as u64,
-        d as u64,
+        label.s.0,
+        label.m as u64,
+        label.d as u64,
         stations[0] as u64,
         stations[1] as u64,
         stations[2] as u64,
@@ -91,13 +88,11 @@ pub fn put_label_line(out: &mut [u8], at: usize, i: u8, t: u8, label: Label, row
 fn is_listed(i: u8, t: u8, label: Label) -> bool
     ensures { result ≡ not (eqb i t) && not (is_unassigned label) }
 {
-    if i == t {
-        return false;
-    }
-    !is_unassigned(label)
+    i != t && !is_unassigned(label)
 }
 
-// The lines of station i. Not inlined, so that its copy of the memory takes no stack while a run goes on.
+// The lines of station i. Not inlined, so that its copy of the memory takes no stack while a run goes on. By value: of lent memory
+// the lengths of its tables are not known (`sized`), from which `in-range-ranged` has its bounds.
 #[inline(never)]
 fn put_station_lines(out: &mut [u8], at: usize, memory: Memory, i: u8) -> usize
     requires memory_value { (memory_in_range (view memory) ≡ true) × (i < memory.n) }
@@ -105,17 +100,12 @@ fn put_station_lines(out: &mut [u8], at: usize, memory: Memory, i: u8) -> usize
     ensures puts_at { PutsAt out.old at (flat_map label_text (station_lines (view memory) i)) result out.new }
     ensures upper_bound { result ≤ at + 69 * memory.n }
 {
-    let n = memory.n;
     let mut end = at;
-    let mut t = 0;
-    while t < n {
-        let destination = t;
-        let here = place(i, destination);
+    for t in 0..memory.n {
+        let here = place(i, t);
         let label = label_of(memory.s[here], memory.m[here], memory.d[here]);
-        let row = memory.rows[here];
-        t += 1;
-        if is_listed(i, destination, label) {
-            end = put_label_line(out, end, i, destination, label, row);
+        if is_listed(i, t, label) {
+            end = put_label_line(out, end, i, t, label, memory.rows[here]);
         }
     }
     end
@@ -128,12 +118,9 @@ pub fn put_label_lines(out: &mut [u8], at: usize, memory: Memory) -> usize
     ensures puts_at { PutsAt out.old at (flat_map label_text (label_lines (view memory) memory.n)) result out.new }
     ensures upper_bound { result ≤ at + 17_664 }
 {
-    let n = memory.n;
     let mut end = at;
-    let mut i = 0;
-    while i < n {
+    for i in 0..memory.n {
         end = put_station_lines(out, end, memory, i);
-        i += 1;
     }
     end
 }

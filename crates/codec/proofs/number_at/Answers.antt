@@ -1,21 +1,26 @@
--- `number_at` meets its contract, by the width.
-use native.Mathlib.Omega.{arith}
-use Rattle.codec.proofs.ByteLaws.{width-eight}
+-- `number_at` meets its contract: what the library reads of the first bytes is the number that they make.
+use Rattle.std.proofs.Common.{◌≡◌, ◌∙◌, arith}
+use Rattle.codec.proofs.ByteLaws.{width-eight, number-one, number-read}
 use Rattle.codec.proofs.number_at.Goals as goal
 
-pub returns-then-width-eq1 : goal.returns-then-width-eq1
-returns-then-width-eq1 c = rw c.if-width-eq1.true c.byte_at.ensures
+pub returns-in-1 : goal.returns-in-1
+returns-in-1 c = rw (c.in-1.is, number-one c.args.bytes.now c.args.at (omega arith)) (c.from.ensures, omega arith)
 
-pub returns-then-width-eq2 : goal.returns-then-width-eq2
-returns-then-width-eq2 c = rw c.if-width-eq2.true c.two_at.ensures
+pub returns-in-2 : goal.returns-in-2
+returns-in-2 c =
+    let args = c.args in
+    let first = rw c.unwrap.ensures at c.first_chunk.ensures.cases in
+    rw c.in-2.is (number-read args.bytes.now _ args.at 1 _ (omega arith) first.same (c.from-in-2.ensures ∙ c.from_le_bytes.ensures), omega arith)
 
-pub returns-then-width-eq4 : goal.returns-then-width-eq4
-returns-then-width-eq4 c = rw c.if-width-eq4.true c.four_at.ensures
+pub returns-in-4 : goal.returns-in-4
+returns-in-4 c =
+    let args = c.args in
+    let first = rw c.unwrap-in-4.ensures at c.first_chunk-in-4.ensures.cases in
+    rw c.in-4.is (number-read args.bytes.now _ args.at 3 _ (omega arith) first.same (c.from-in-4.ensures ∙ c.from_le_bytes-in-4.ensures), omega arith)
 
-pub eight_at-requires : goal.eight_at-requires
-eight_at-requires c =
-    omega (arith, width-eight c.args.width c.requires.1 c.if-width-eq1.false c.if-width-eq2.false c.if-width-eq4.false, c.requires.0)
-
-pub returns : goal.returns
-returns c =
-    rw (width-eight c.args.width c.requires.1 c.if-width-eq1.false c.if-width-eq2.false c.if-width-eq4.false) c.eight_at.ensures
+pub returns-in_default : goal.returns-in_default
+returns-in_default c =
+    let args = c.args in
+    let first = rw c.unwrap-in_default.ensures at c.first_chunk-in_default.ensures.cases in
+    let eight : args.width ≡ 8 = width-eight args.width c.requires.1 (λ e. omega arith) (λ e. omega arith) (λ e. omega arith) in
+    rw eight (number-read args.bytes.now _ args.at 7 _ (omega arith) first.same c.from_le_bytes-in_default.ensures, omega arith)

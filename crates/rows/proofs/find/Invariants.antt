@@ -1,10 +1,6 @@
--- `find` meets its contract: the search so far, turn by turn.
-use Prim.Native.Nat.{◌-◌, ◌≤◌}
-use Rattle.rows.proofs.SearchLaws.{Search}
+-- No entry before place k names j.
+use Rattle.std.proofs.Common.{◌≡◌, ℕ, ◌<◌, get_or}
 use Rattle.rows.proofs.find.Given as goal
 
-abbrev pub invariant-loop-looked : goal.invariant-loop-looked
-invariant-loop-looked l = (l.place ≤ l.count) × Search l.row l.count l.j l.place l.looked
-
-abbrev pub decreases-loop-looked : goal.decreases-loop-looked
-decreases-loop-looked l = l.count - l.looked
+abbrev pub invariant-loop-k : goal.invariant-loop-k
+invariant-loop-k l = (i : ℕ) → i < l.k → get_or l.row.stations i 0 ≡ l.j → ⊥

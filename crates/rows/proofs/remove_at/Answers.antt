@@ -7,16 +7,13 @@ use Rattle.rows.proofs.RowLaws.{moved_none, moved_more, moved_all}
 use Rattle.rows.proofs.remove_at.Goals as goal
 
 pub loop-k-init : goal.loop-k-init
-loop-k-init c = (omega arith, omega arith, refl, moved_none _ _)
+loop-k-init c = (refl, moved_none _ _)
 
 pub loop-k-preserved : goal.loop-k-preserved
 loop-k-preserved c =
-    let loop = c.loop-k in
-    let e = successor_of c.entry-e.result in (
-      omega arith,
-      omega arith,
-      c.with_entry-row.ensures.count_same ∙ loop.invariant.2,
-      moved_more _ _ loop.k loop.row c.with_entry-row.result e loop.invariant.3 loop.invariant.0 c.entry-e.ensures c.with_entry-row.ensures,
+    let loop = c.loop-k in (
+      c.with_entry-row.ensures.count_same ∙ loop.invariant.0,
+      moved_more _ _ loop.k loop.row c.with_entry-row.result (successor_of c.entry.result) loop.invariant.1 (omega arith) c.entry.ensures c.with_entry-row.ensures,
     )
 
 pub returns : goal.returns
@@ -25,4 +22,4 @@ returns c =
     let loop = c.loop-k in
     let all : loop.row.count ≡ loop.k = omega arith in
     ap (λ k. tabulate k (entry_of loop.row)) all
-    ∙ moved_all c.args.place (entry_of c.args.row) loop.k c.args.row.count (entry_of loop.row) loop.invariant.3 loop.invariant.0 (omega arith)
+    ∙ moved_all c.args.place (entry_of c.args.row) loop.k c.args.row.count (entry_of loop.row) loop.invariant.1 (omega arith) (omega arith)

@@ -1,5 +1,4 @@
 -- `under` meets its contract: after k turns the new row has those of the first k entries whose label g is above.
-use Prim.Native.Nat.{◌-◌, ◌≤◌}
 use mathlib.Core.Path.{◌≡◌}
 use Rattle.base.specs.Lists.{tabulate}
 use Rattle.model.specs.Memory.{under}
@@ -7,7 +6,4 @@ use Rattle.rows.specs.View.{entry_of, row_of}
 use Rattle.rows.proofs.under.Given as goal
 
 abbrev pub invariant-loop-k : goal.invariant-loop-k
-invariant-loop-k l = (l.k ≤ l.count) × (row_of l.next ≡ under l.g (tabulate l.k (entry_of l.row)))
-
-abbrev pub decreases-loop-k : goal.decreases-loop-k
-decreases-loop-k l = l.count - l.k
+invariant-loop-k l = row_of l.next ≡ under l.g (tabulate l.k (entry_of l.row))

@@ -3,24 +3,27 @@ use mathlib.Core.Path.{sym, ap, ◌∙◌}
 use native.Mathlib.Omega.{arith}
 use Rattle.base.specs.Lists.{remove_at}
 use Rattle.base.proofs.Lists.{all-kept}
-use Rattle.base.proofs.Loops.{index-outside}
 use Rattle.model.specs.Memory.{without}
 use Rattle.rows.specs.View.{row_of}
 use Rattle.rows.specs.Leaving.{leaving}
 use Rattle.rows.proofs.RowLaws.{row-length}
+use Rattle.rows.proofs.SearchLaws.{First, place-some, place-none}
 use Rattle.rows.proofs.LeavingLaws.{without-found, leaving-names}
 use Rattle.rows.proofs.without_station.Goals as goal
 
-pub returns-then-place-count : goal.returns-then-place-count
-returns-then-place-count c =
+pub remove_at-requires : goal.remove_at-requires
+remove_at-requires c =
     let args = c.args in
-    c.remove_at.ensures ∙ ap (λ k. remove_at k (row_of args.row)) c.leaving_place-place.ensures
+    let at : First (leaving args.all args.j args.serial) (row_of args.row) c.in-Some.place = place-some _ _ c.leaving_place.ensures c.in-Some.is in
+    (omega (arith, row-length args.row, at.within), c.requires.short)
+
+pub returns-in-Some : goal.returns-in-Some
+returns-in-Some c =
+    let args = c.args in
+    let at : First (leaving args.all args.j args.serial) (row_of args.row) c.in-Some.place = place-some _ _ c.leaving_place.ensures c.in-Some.is in
+    c.remove_at.ensures ∙ ap (λ k. remove_at k (row_of args.row)) at.first
     ∙ sym (without-found args.j _ (leaving-names args.all args.j args.serial) (row_of args.row) c.requires.once)
 
-pub returns : goal.returns
+pub returns-in-None : goal.returns-in-None
 unfolding without
-returns c =
-    let args = c.args in
-    let row = args.row in
-    let leaves = leaving args.all args.j args.serial in
-    sym (all-kept leaves (row_of row) (index-outside leaves (row_of row) (omega (arith, row-length row, c.leaving_place-place.ensures))))
+returns-in-None c = sym (all-kept _ (row_of c.args.row) (place-none _ _ c.leaving_place.ensures c.in-None.is))

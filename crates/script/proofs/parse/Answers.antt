@@ -10,7 +10,7 @@ use Rattle.base.proofs.Results.{refuse-holds, refuse-passes}
 use Rattle.model.specs.Calls.{not_opening}
 use Rattle.model.specs.Events.{all_events}
 use Rattle.script.specs.Script.{event_count, decoded, not_sized, parsing}
-use Rattle.script.proofs.ScriptLaws.{sized-tell, decoded-n, kinds-part, operands-part, kinds-length, operands-length, Tested, parse-refused, parse-accepted}
+use Rattle.script.proofs.ScriptLaws.{decoded-n, kinds-part, operands-part, Tested, parse-refused, parse-accepted}
 use Rattle.script.proofs.parse.Goals as goal
 
 -- What a test answered with the numbers that the code read, it answers with those that the bytes say.
@@ -31,64 +31,45 @@ module _ (bytes : List ℕ) (test answer : Bool) where
       → all_events (decoded bytes).kinds (decoded bytes).operands ≡ answer
   events-tested events count sized e h = sym (e ∙ ap₂ all_events (kinds-part bytes events count sized) (operands-part bytes events count sized)) ∙ h
 
-pub returns-then-script-lt11 : goal.returns-then-script-lt11
+pub returns-then-script-lt11-clause-parsed : goal.returns-then-script-lt11-clause-parsed
 unfolding parsing
-returns-then-script-lt11 c =
+returns-then-script-lt11-clause-parsed c =
     let short = lt-ltb _ _ c.if-script-lt11.true in
-    parse-refused c.args.script.now _ 9 (refuse-holds 9 _ _ short) c.not_read.ensures
+    parse-refused c.args.script.now 9 (refuse-holds 9 _ _ short)
 
-pub returns-then-not_sized : goal.returns-then-not_sized
+pub returns-then-not_sized-clause-parsed : goal.returns-then-not_sized-clause-parsed
 unfolding parsing event_count
-returns-then-not_sized c =
+returns-then-not_sized-clause-parsed c =
     let script = c.args.script.now in
     let long = le-ltb _ _ c.if-script-lt11.false in
     let missized = size-tested script _ _ _ c.number_at-events.ensures.0 c.not_sized.ensures c.if-not_sized.true in
-    parse-refused script _ 10 (refuse-passes 9 _ _ long ∙ refuse-holds 10 _ _ missized) c.not_read-then-not_sized.ensures
+    parse-refused script 10 (refuse-passes 9 _ _ long ∙ refuse-holds 10 _ _ missized)
 
-pub returns-then-open_refused : goal.returns-then-open_refused
+pub returns-then-open_refused-clause-parsed : goal.returns-then-open_refused-clause-parsed
 unfolding parsing decoded event_count
-returns-then-open_refused c =
+returns-then-open_refused-clause-parsed c =
     let script = c.args.script.now in
     let long = le-ltb _ _ c.if-script-lt11.false in
     let sized = size-tested script _ _ _ c.number_at-events.ensures.0 c.not_sized.ensures c.if-not_sized.false in
-    let first = sym (decoded-n script (omega arith)) in
+    let first = c.from.ensures ∙ sym (decoded-n script (omega arith)) in
     let closed = opening-tested script _ _ _ _ first c.number_at-start.ensures.0 c.open_refused.ensures c.if-open_refused.true in
-    parse-refused script _ 1 (refuse-passes 9 _ _ long ∙ refuse-passes 10 _ _ sized ∙ refuse-holds 1 _ _ closed) c.not_read-then-open_refused.ensures
+    parse-refused script 1 (refuse-passes 9 _ _ long ∙ refuse-passes 10 _ _ sized ∙ refuse-holds 1 _ _ closed)
 
-pub slice_bounds-all_events-end : goal.slice_bounds-all_events-end
-unfolding event_count
-slice_bounds-all_events-end c =
-    let count = c.number_at-events.ensures.0 in
-    let sized = size-tested c.args.script.now _ _ _ count c.not_sized.ensures c.if-not_sized.false in
-    let told = sized-tell _ _ sized in
-    omega (arith, count, told.1)
-
-pub all_events-requires : goal.all_events-requires
-unfolding event_count
-all_events-requires c =
-    let script = c.args.script.now in
-    let count = c.number_at-events.ensures.0 in
-    let sized = size-tested script _ _ _ count c.not_sized.ensures c.if-not_sized.false in
-    let kinds = ap length (kinds-part script _ count sized) in
-    let operands = ap length (operands-part script _ count sized) in
-    omega (arith, kinds, operands, kinds-length script sized, operands-length script sized)
-
-pub returns-then-not-all_events : goal.returns-then-not-all_events
+pub returns-then-not-all_events-clause-parsed : goal.returns-then-not-all_events-clause-parsed
 unfolding parsing decoded event_count
-returns-then-not-all_events c =
+returns-then-not-all_events-clause-parsed c =
     let script = c.args.script.now in
     let count = c.number_at-events.ensures.0 in
     let long = le-ltb _ _ c.if-script-lt11.false in
     let sized = size-tested script _ _ _ count c.not_sized.ensures c.if-not_sized.false in
-    let first = sym (decoded-n script (omega arith)) in
+    let first = c.from.ensures ∙ sym (decoded-n script (omega arith)) in
     let opens = opening-tested script _ _ _ _ first c.number_at-start.ensures.0 c.open_refused.ensures c.if-open_refused.false in
     let wrong = events-tested script _ _ _ count sized c.all_events.ensures c.if-not-all_events.true in
-    parse-refused script _ 11 (refuse-passes 9 _ _ long ∙ refuse-passes 10 _ _ sized ∙ refuse-passes 1 _ _ opens ∙ refuse-holds 11 _ _ (ap not wrong))
-    c.not_read-then-not-all_events.ensures
+    parse-refused script 11 (refuse-passes 9 _ _ long ∙ refuse-passes 10 _ _ sized ∙ refuse-passes 1 _ _ opens ∙ refuse-holds 11 _ _ (ap not wrong))
 
-pub returns : goal.returns
+pub returns-clause-parsed : goal.returns-clause-parsed
 unfolding decoded event_count
-returns c =
+returns-clause-parsed c =
     let script = c.args.script.now in
     let count = c.number_at-events.ensures.0 in
     let start = c.number_at-start.ensures.0 in
@@ -97,7 +78,7 @@ returns c =
     let tested : Tested script = record {
       long = le-ltb _ _ c.if-script-lt11.false;
       counted = sized;
-      opens = opening-tested script _ _ _ _ first start c.open_refused.ensures c.if-open_refused.false;
+      opens = opening-tested script _ _ _ _ (c.from.ensures ∙ first) start c.open_refused.ensures c.if-open_refused.false;
       all = events-tested script _ _ _ count sized c.all_events.ensures c.if-not-all_events.false;
     } in
     parse-accepted script _ tested (rw (start, count, first))

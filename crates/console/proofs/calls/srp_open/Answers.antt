@@ -12,7 +12,7 @@ pub returns-then-memory-lt-LENGTH : goal.returns-then-memory-lt-LENGTH
 unfolding Ends Leaves telling_call too_short
 returns-then-memory-lt-LENGTH c =
     let args = c.args in
-    rw (calling-short split (Open args.n args.start args.limit) args.memory.now (lt-ltb _ _ c.if-memory-lt-LENGTH.true)) (refl, refl)
+    rw (calling-short split (Open args.n args.start args.limit) args.memory.now (lt-ltb _ _ c.if-memory-lt-LENGTH.true)) (c.turned_down.ensures, refl)
 
 pub returns : goal.returns
 unfolding too_short step_by

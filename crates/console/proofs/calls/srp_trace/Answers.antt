@@ -20,9 +20,10 @@ returns c =
     let same : traced told.answer told.hops ≡ trace net args.a args.t =
     c.trace-told.ensures.traced ∙ ap (λ m. trace m args.a args.t) c.load.ensures in
     let small : told.answer < 4_294_967_296 = search rules in
+    let put = rw c.from.ensures at c.packed.ensures in
     let halves = unpacked told.answer told.hops small in record {
-      traced = c.packed.ensures ∙ ap (λ (x : Traced). packed x.answer x.hops) same;
+      traced = put ∙ ap (λ (x : Traced). packed x.answer x.hops) same;
       loop_free = λ made ha ht apart.
-          rw (c.packed.ensures, halves.0, halves.1)
+          rw (put, halves.0, halves.1)
           (subst (WalksEnd net args.a args.t) (sym same) (loop-free net (made-reaches _ made) args.a args.t ha ht apart));
     }

@@ -6,7 +6,7 @@ use Rattle.console.proofs.drain.srp_drain.Goals as goal
 pub returns-then-drained-ne0 : goal.returns-then-drained-ne0
 returns-then-drained-ne0 c =
     let both = drain-out _ _ c.load.ensures _ c.drain-drained.ensures.drained c.if-drained-ne0.true in
-    record { drained = both.0; loop_free = both.1 }
+    rw c.turned_down.ensures (record { drained = both.0; loop_free = both.1 })
 
 pub write-requires : goal.write-requires
 write-requires c =

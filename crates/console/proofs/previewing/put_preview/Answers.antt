@@ -22,6 +22,6 @@ returns c =
     let row = row_bytes (row_of args.row) in
     let first = sets args.out.now 0 l in
     let mask = little_endian 2 args.mask in
-    c.put_number.ensures
+    (rw c.from.ensures at c.put_number.ensures)
     ∙ rw (c.put_row.ensures.0, c.put_label.ensures.0)
     (sets-next first label_wide (label_wide + row_wide) row mask (omega (arith, row-wide (row_of args.row))) ∙ sets-next args.out.now 0 label_wide l (row ++ mask) (omega (arith, written-wide label_format args.label)))

@@ -1,13 +1,12 @@
 -- `scripts::srp_write_script` meets its contract: what writing gave, in one number.
-use native.Mathlib.Omega.{arith}
-use Rattle.script.specs.Script.{script}
-use Rattle.console.proofs.ScriptResults.{written_small, written-told}
+use Rattle.console.specs.Packed.{telling}
+use Rattle.console.proofs.ShowLaws.{told-put}
 use Rattle.console.proofs.scripts.srp_write_script.Goals as goal
 
-pub overflow_cast-length : goal.overflow_cast-length
-overflow_cast-length c =
-    let args = c.args in
-    record { fits = omega (arith, written_small (script args.n args.start args.kinds.now args.operands.now) args.out.now c.write-written.result c.write-written.new.out c.write-written.ensures.written) }
+pub returns-in-Ok : goal.returns-in-Ok
+unfolding telling
+returns-in-Ok c = told-put _ _ _ _ c.in-Ok.ensures.written c.packed.ensures
 
-pub returns : goal.returns
-returns c = written-told _ _ _ _ c.write-written.ensures.written _ c.packed.ensures
+pub returns-in-Err : goal.returns-in-Err
+unfolding telling
+returns-in-Err c = told-put _ _ _ _ c.in-Err.ensures.written c.turned_down.ensures

@@ -19,20 +19,18 @@ use Rattle.formats.proofs.entries.put_row.Invariants.{entry_in}
 use Rattle.formats.proofs.entries.put_row.Goals as goal
 
 pub loop-k-init : goal.loop-k-init
-loop-k-init c = (omega arith, put-none successor_bytes (Fits successor_format) _ _ _)
+loop-k-init c = put-none successor_bytes (Fits successor_format) _ _ _
 
-pub put_entry-requires : goal.put_entry-requires
-put_entry-requires c =
+pub put-requires : goal.put-requires
+put-requires c =
     let loop = c.loop-k in
-    omega (arith, put-length successor_bytes (Fits successor_format) _ _ _ loop.out loop.k loop.invariant.1)
+    omega (arith, put-length successor_bytes (Fits successor_format) _ _ _ loop.out loop.k loop.invariant)
 
 pub loop-k-preserved : goal.loop-k-preserved
 loop-k-preserved c =
-    let loop = c.loop-k in (
-      omega arith,
-      put-more successor_bytes (Fits successor_format) _ _ _ loop.out loop.k loop.invariant.1 _ (written-wide successor_format) _ c.entry_of.ensures _
-          c.put_entry.ensures.0 c.put_entry.ensures.1,
-    )
+    let loop = c.loop-k in
+    put-more successor_bytes (Fits successor_format) _ _ _ loop.out loop.k loop.invariant _ (written-wide successor_format) _ c.entry_of.ensures _
+    c.put.ensures.0 c.put.ensures.1
 
 pub returns : goal.returns
 unfolding counted_bytes padded
@@ -40,7 +38,7 @@ returns c =
     let row = c.args.row in
     let loop = c.loop-k in
     let all : loop.k ≡ row_limit = omega arith in
-    let put = loop.invariant.1 in (
+    let put = loop.invariant in (
       put.stands ∙ rw (all, c.put_byte.ensures, row-length row) (sets-next c.args.out.now c.args.at (c.args.at + 1) (row.count ∷ [])
           (flat_map successor_bytes (tabulate row_limit (entry_in row))) refl),
       record { each = λ k h. put.fits k (omega arith); past = row-past row (row-lengths row c.well_formed.1.1.0) },

@@ -1,7 +1,7 @@
 -- `entries::put_row` meets its contract: the count, and then the first k entries are put.
-use Prim.Native.Nat.{ℕ, ◌+◌, ◌-◌, ◌≤◌}
+use Prim.Native.Nat.{ℕ, ◌+◌}
 use lib.ListN.{get_or}
-use Rattle.model.specs.Memory.{Successor, row_limit}
+use Rattle.model.specs.Memory.{Successor}
 use Rattle.rows.specs.declared.Row.{Row}
 use Rattle.rows.specs.View.{row_of}
 use Rattle.codec.specs.Fields.{Fits}
@@ -14,7 +14,4 @@ abbrev pub entry_in : Row → ℕ → Successor
 entry_in row k = get_or (row_of row) k zero_successor
 
 abbrev pub invariant-loop-k : goal.invariant-loop-k
-invariant-loop-k l = (l.k ≤ row_limit) × Put successor_bytes (Fits successor_format) (entry_in l.row) l.initial.out (l.at + 1) l.out l.k
-
-abbrev pub decreases-loop-k : goal.decreases-loop-k
-decreases-loop-k l = row_limit - l.k
+invariant-loop-k l = Put successor_bytes (Fits successor_format) (entry_in l.row) l.initial.out (l.at + 1) l.out l.k

@@ -8,13 +8,12 @@ use Rattle.formats.proofs.EntryLaws.{read_none, read_more, read_all}
 use Rattle.formats.proofs.entries.read_row.Goals as goal
 
 pub loop-k-init : goal.loop-k-init
-loop-k-init c = (omega arith, read_none _ _ _ (row-lengths c.empty_row-row.result c.empty_row-row.type_inv))
+loop-k-init c = read_none _ _ _ (row-lengths c.empty_row-row.result c.empty_row-row.type_inv)
 
 pub loop-k-preserved : goal.loop-k-preserved
 loop-k-preserved c =
     let loop = c.loop-k in
-    let e = c.read_entry-e in
-    (omega arith, read_more _ _ loop.row loop.k c.with_entry-row.result _ loop.invariant.1 c.with_entry-row.ensures (row-lengths c.with_entry-row.result c.with_entry-row.type_inv) e.ensures)
+    read_more _ _ loop.row loop.k c.with_entry-row.result _ loop.invariant c.with_entry-row.ensures (row-lengths c.with_entry-row.result c.with_entry-row.type_inv) c.read.ensures
 
 pub returns : goal.returns
 unfolding row_of entry_of
@@ -22,4 +21,4 @@ returns c =
     let loop = c.loop-k in
     let args = c.args in
     let all : loop.k ≡ row_limit = omega arith in
-    read_all args.bytes.now args.at loop.row (rw all at loop.invariant.1)
+    read_all args.bytes.now args.at loop.row (rw all at loop.invariant)

@@ -19,23 +19,20 @@ use Rattle.formats.proofs.packets.put_air.Invariants.{packet_or}
 use Rattle.formats.proofs.packets.put_air.Goals as goal
 
 pub loop-k-init : goal.loop-k-init
-loop-k-init c = (omega arith, put-none packet_bytes PacketFits _ _ _)
+loop-k-init c = put-none packet_bytes PacketFits _ _ _
 
 pub put_packet-requires : goal.put_packet-requires
 put_packet-requires c =
     let loop = c.loop-k in
-    omega (arith, put-length packet_bytes PacketFits _ _ _ loop.out loop.k loop.invariant.1)
+    omega (arith, put-length packet_bytes PacketFits _ _ _ loop.out loop.k loop.invariant)
 
 pub loop-k-preserved : goal.loop-k-preserved
 unfolding packets_of packet_of
 loop-k-preserved c =
     let loop = c.loop-k in
     let air = c.args.air in
-    let same = c.counted.ensures ∙ sym (tabulate-or air.count (packet_in air.packets) loop.k zero_packet) in (
-      omega arith,
-      put-more packet_bytes PacketFits _ _ _ loop.out loop.k loop.invariant.1 _ packet-wide _ same _
-          c.put_packet.ensures.0 c.put_packet.ensures.1,
-    )
+    let same = c.counted.ensures ∙ sym (tabulate-or air.count (packet_in air.packets) loop.k zero_packet) in
+    put-more packet_bytes PacketFits _ _ _ loop.out loop.k loop.invariant _ packet-wide _ same _ c.put_packet.ensures.0 c.put_packet.ensures.1
 
 pub returns : goal.returns
 unfolding counted_bytes padded
@@ -43,7 +40,7 @@ returns c =
     let air = c.args.air in
     let loop = c.loop-k in
     let all : loop.k ≡ air_limit = omega arith in
-    let put = loop.invariant.1 in (
+    let put = loop.invariant in (
       put.stands ∙ rw (all, c.put_byte.ensures, air-length air) (sets-next c.args.out.now c.args.at (c.args.at + 1) (air.count ∷ [])
           (flat_map packet_bytes (tabulate air_limit (packet_or air))) refl),
       record { each = λ k h. put.fits k (omega arith); past = air-past air (packets-length air c.well_formed.1.1.0) },

@@ -1,7 +1,7 @@
 -- `packets::put_air` meets its contract: the count, and then the first k packets are put.
-use Prim.Native.Nat.{ℕ, ◌+◌, ◌-◌, ◌≤◌}
+use Prim.Native.Nat.{ℕ, ◌+◌}
 use lib.ListN.{get_or}
-use Rattle.model.specs.Memory.{Packet, zero_packet, air_limit}
+use Rattle.model.specs.Memory.{Packet, zero_packet}
 use Rattle.network.specs.declared.Air.{Air}
 use Rattle.network.specs.View.{air_of}
 use Rattle.codec.proofs.TableLaws.{Put}
@@ -13,7 +13,4 @@ abbrev pub packet_or : Air → ℕ → Packet
 packet_or air k = get_or (air_of air) k zero_packet
 
 abbrev pub invariant-loop-k : goal.invariant-loop-k
-invariant-loop-k l = (l.k ≤ air_limit) × Put packet_bytes PacketFits (packet_or l.air) l.initial.out (l.at + 1) l.out l.k
-
-abbrev pub decreases-loop-k : goal.decreases-loop-k
-decreases-loop-k l = air_limit - l.k
+invariant-loop-k l = Put packet_bytes PacketFits (packet_or l.fn.air) l.initial.out (l.at + 1) l.out l.k

@@ -1,14 +1,19 @@
 -- `memory::write` meets its contract: the parts, put one after the other.
 use Prim.Native.Nat.{ℕ}
-use mathlib.Core.Path.{◌≡◌, ap, ◌∙◌}
+use mathlib.Core.Path.{ap, subst, ◌∙◌}
+use mathlib.Core.Bool.{Bool, false}
 use mathlib.Core.List.{List, [], ◌∷◌, flat_map}
-use lib.ListN.{length, length-map}
+use lib.ListN.{length-map}
 use lib.Seq.{sets}
 use native.Mathlib.Omega.{arith}
+use Rattle.std.proofs.lemmas.List.{map-id}
+use Rattle.codec.specs.Fields.{Fits}
+use Rattle.codec.specs.Tables.{TableFits}
 use Rattle.codec.proofs.ByteLaws.{sets_over}
 use Rattle.network.specs.declared.RequestNumber.{RequestNumber}
 use Rattle.network.specs.View.{view}
 use Rattle.network.proofs.Bounds.{memory-lengths}
+use Rattle.formats.specs.Formats.{link_format}
 use Rattle.formats.specs.Written.{label_bytes, row_bytes, record_bytes, station_bytes, link_bytes, air_bytes}
 use Rattle.layout.specs.Places.{size_at, stations_at, links_at, labels_at, rows_at, records_at, air_at, limit_at}
 use Rattle.layout.specs.Stations.{stations_from}
@@ -21,26 +26,13 @@ use Rattle.layout.proofs.memory.write.Goals as goal
 abbrev put : ℕ → List ℕ → List ℕ → List ℕ
 put at bytes out = sets out at bytes
 
-pub put_air-requires : goal.put_air-requires
-put_air-requires c =
-    let kept : length c.write_records.new.out ≡ length c.args.out.now =
-    c.write_records.auto.out ∙ c.write_rows.auto.out ∙ c.write_labels.auto.out ∙ c.write_links.auto.out ∙ c.write_stations.auto.out ∙ c.put_byte-2.auto.out
-    ∙ c.put_byte.auto.out in
-    omega (arith, c.requires, kept)
-
-pub put_byte-requires-3 : goal.put_byte-requires-3
-put_byte-requires-3 c =
-    let kept : length c.write_records.new.out ≡ length c.args.out.now =
-    c.write_records.auto.out ∙ c.write_rows.auto.out ∙ c.write_labels.auto.out ∙ c.write_links.auto.out ∙ c.write_stations.auto.out ∙ c.put_byte-2.auto.out
-    ∙ c.put_byte.auto.out in
-    omega (arith, c.requires, kept, c.put_air.auto.out)
-
 pub returns : goal.returns
 unfolding view stations_from
 returns c =
     let memory = c.args.memory in
     let net = view memory in
     let out = c.args.out.now in
+    let same = map-id memory.links in
     let long = memory-lengths memory c.well_formed.1.0 in
     let fits : NetworkFits net = record {
       stations = record {
@@ -50,18 +42,18 @@ returns c =
         active-long = long.active-length;
         serials-long = long.serials-length;
       };
-      links = c.write_links.ensures.1;
+      links = subst (TableFits 256 false (Fits link_format)) same c.put_table.ensures.1;
       labels = c.write_labels.ensures.1;
-      rows = c.write_rows.ensures.1;
-      records = c.write_records.ensures.1;
+      rows = c.put_table-2.ensures.1;
+      records = c.put_table-3.ensures.1;
       air = c.put_air.ensures.1;
     } in (
       c.put_byte-3.ensures
           ∙ ap (put limit_at (net.limit ∷ [])) (c.put_air.ensures.0
-          ∙ ap (put air_at (air_bytes net.air)) (c.write_records.ensures.0
-          ∙ ap (put records_at (flat_map record_bytes net.records)) (c.write_rows.ensures.0
+          ∙ ap (put air_at (air_bytes net.air)) (c.put_table-3.ensures.0
+          ∙ ap (put records_at (flat_map record_bytes net.records)) (c.put_table-2.ensures.0
           ∙ ap (put rows_at (flat_map row_bytes net.rows)) (c.write_labels.ensures.0
-          ∙ ap (put labels_at (flat_map label_bytes net.labels)) (c.write_links.ensures.0
+          ∙ ap (put labels_at (flat_map label_bytes net.labels)) ((c.put_table.ensures.0 ∙ ap (λ (l : List Bool). sets c.write_stations.new.out links_at (flat_map link_bytes l)) same)
           ∙ ap (put links_at (flat_map link_bytes net.links)) (c.write_stations.ensures.0
           ∙ ap (put stations_at (flat_map station_bytes (stations_of net))) (c.put_byte-2.ensures
           ∙ ap (put size_at (net.n ∷ [])) c.put_byte.ensures)))))))

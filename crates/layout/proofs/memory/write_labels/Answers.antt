@@ -10,21 +10,21 @@ use Rattle.formats.specs.Written.{label_bytes}
 use Rattle.layout.proofs.memory.write_labels.Goals as goal
 
 pub loop-i-init : goal.loop-i-init
-loop-i-init c = (omega arith, c.requires, put-none label_bytes (Fits label_format) _ _ _)
+loop-i-init c = put-none label_bytes (Fits label_format) _ _ _
 
 pub put_label-requires : goal.put_label-requires
 put_label-requires c =
     let loop = c.loop-i in
-    omega (arith, loop.invariant.1, put-length label_bytes (Fits label_format) _ _ _ loop.out loop.i loop.invariant.2)
+    omega (arith, put-length label_bytes (Fits label_format) _ _ _ loop.out loop.i loop.invariant)
 
 pub loop-i-preserved : goal.loop-i-preserved
 unfolding label_of
 loop-i-preserved c =
     let loop = c.loop-i in
-    (omega arith, loop.invariant.1, put-more label_bytes (Fits label_format) _ _ _ loop.out loop.i loop.invariant.2 _ (written-wide label_format) _ c.label_of.ensures _ c.put_label.ensures.0 c.put_label.ensures.1)
+    put-more label_bytes (Fits label_format) _ _ _ loop.out loop.i loop.invariant _ (written-wide label_format) _ c.label_of.ensures _ c.put_label.ensures.0 c.put_label.ensures.1
 
 pub returns : goal.returns
 unfolding label_of
 returns c =
     let loop = c.loop-i in
-    put_all label_bytes (Fits label_format) _ _ _ loop.out loop.i loop.invariant.2 256 _ _ (omega arith) refl
+    put_all label_bytes (Fits label_format) _ _ _ loop.out loop.i loop.invariant 256 _ _ (omega arith) refl

@@ -24,21 +24,21 @@ station-same kept i =
     λ j. record { number = number j; sought = get_or kept.sought i 0; active = get_or kept.active i false; serial = get_or kept.serials i 0 }
 
 pub loop-i-init : goal.loop-i-init
-loop-i-init c = (omega arith, c.requires, put-none station_bytes (Fits station_format) _ _ _)
+loop-i-init c = put-none station_bytes (Fits station_format) _ _ _
 
 pub put_station-requires : goal.put_station-requires
 put_station-requires c =
     let loop = c.loop-i in
-    omega (arith, loop.invariant.1, put-length station_bytes (Fits station_format) _ _ _ loop.out loop.i loop.invariant.2)
+    omega (arith, put-length station_bytes (Fits station_format) _ _ _ loop.out loop.i loop.invariant)
 
 pub loop-i-preserved : goal.loop-i-preserved
 unfolding stations_from
 loop-i-preserved c =
     let loop = c.loop-i in
-    (omega arith, loop.invariant.1, put-more station_bytes (Fits station_format) _ _ _ loop.out loop.i loop.invariant.2 _ (written-wide station_format) _ (station-same c.args.kept loop.i) _ c.put_station.ensures.0 c.put_station.ensures.1)
+    put-more station_bytes (Fits station_format) _ _ _ loop.out loop.i loop.invariant _ (written-wide station_format) _ (station-same c.args.kept loop.i) _ c.put_station.ensures.0 c.put_station.ensures.1
 
 pub returns : goal.returns
 unfolding stations_from
 returns c =
     let loop = c.loop-i in
-    put_all station_bytes (Fits station_format) _ _ _ loop.out loop.i loop.invariant.2 16 _ _ (omega arith) refl
+    put_all station_bytes (Fits station_format) _ _ _ loop.out loop.i loop.invariant 16 _ _ (omega arith) refl

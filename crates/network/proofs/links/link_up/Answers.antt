@@ -4,4 +4,4 @@ use Rattle.model.proofs.Links.{link_at}
 use Rattle.network.proofs.links.link_up.Goals as goal
 
 pub returns : goal.returns
-returns c = c.joined.ensures ∙ link_at _ _ _ _ c.pair_place-at.ensures
+returns c = c.joined.ensures ∙ link_at _ _ _ _ c.pair_place.ensures

@@ -1,33 +1,15 @@
--- `links::neighbour_count` meets its contract: the neighbours below b are counted.
-use Prim.Native.Nat.{◌+◌}
-use mathlib.Core.Path.{◌≡◌, refl, sym, ap, ◌∙◌}
-use mathlib.Core.List.{[], ◌∷◌}
-use lib.ListN.{length, length-append}
-use native.Mathlib.Omega.{arith}
-use Rattle.base.specs.Lists.{below}
-use Rattle.base.proofs.Loops.{below-yes, below-no, below_length}
+-- `links::neighbour_count` meets its contract: the neighbours below n are counted.
+use Rattle.std.proofs.Common.{rules, tests, arith, refl, ap, length, ◌∙◌}
+use Rattle.std.proofs.lemmas.Iterator.{YieldsList-from_range}
+use Rattle.std.proofs.lemmas.Iterator.Consumers.{YieldsList-from_filter, YieldsList-at, count_from_yields_List}
 use Rattle.model.specs.Memory.{link_in}
-use Rattle.model.proofs.Links.{link_at}
+use Rattle.network.proofs.Chains.{filter-range}
 use Rattle.network.proofs.links.neighbour_count.Goals as goal
-use Rattle.network.proofs.links.neighbour_count.Goals.{then-joined, else-joined}
-
-pub loop-b-init : goal.loop-b-init
-unfolding below
-loop-b-init c = (omega arith, refl)
-
-pub overflow_add-count : goal.overflow_add-count
-overflow_add-count c = record { fits = omega (arith, below_length (link_in c.args.links c.args.a) c.loop-b.b) }
-
-pub loop-b-preserved : goal.loop-b-preserved
-loop-b-preserved c =
-    let args = c.args in
-    let at = c.loop-b in
-    let up = sym (c.joined.ensures ∙ link_at _ _ _ _ c.pair_place-at.ensures) in
-    let grown = length-append (below at.b (link_in args.links args.a)) (at.b ∷ []) in
-    elim c.if-joined.branch [
-      | then-joined w ↦ (omega arith, w.count-is ∙ ap (λ k. k + 1) at.invariant.1 ∙ sym (ap length (below-yes _ _ (up ∙ w.if-joined.true)) ∙ grown))
-      | else-joined w ↦ (omega arith, w.count-is ∙ at.invariant.1 ∙ sym (ap length (below-no _ _ (up ∙ w.if-joined.false))))
-    ]
 
 pub returns : goal.returns
-returns c = let e : c.loop-b.b ≡ c.args.n = omega arith in rw e at c.loop-b.invariant.1
+returns c =
+    let args = c.args in
+    count_from_yields_List c.filter.result _ c.count.ensures.ran
+    (YieldsList-from_filter _ (link_in args.links args.a) (YieldsList-at c.filter.ensures.source (YieldsList-from_range 0 args.n args.n refl (omega arith)))
+    c.filter.ensures.closure (λ x r q k. search (rules, tests)))
+    ∙ ap length (filter-range args.n _)

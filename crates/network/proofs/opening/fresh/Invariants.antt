@@ -1,5 +1,4 @@
--- `opening::fresh` meets its contract: the stations below t have their own labels.
-use Prim.Native.Nat.{◌-◌, ◌≤◌}
+-- The stations below t have their own labels.
 use mathlib.Core.Path.{◌≡◌}
 use Rattle.base.specs.Lists.{tabulate}
 use Rattle.model.specs.Memory.{fresh_labels}
@@ -8,7 +7,4 @@ use Rattle.network.proofs.ViewLaws.{Labels}
 use Rattle.network.proofs.opening.fresh.Given as goal
 
 abbrev pub invariant-loop-t : goal.invariant-loop-t
-invariant-loop-t l = (l.t ≤ l.n) × Labels l.s l.m l.d × (tabulate 256 (label_of l.s l.m l.d) ≡ fresh_labels l.start l.t)
-
-abbrev pub decreases-loop-t : goal.decreases-loop-t
-decreases-loop-t l = l.n - l.t
+invariant-loop-t l = Labels l.s l.m l.d × (tabulate 256 (label_of l.s l.m l.d) ≡ fresh_labels l.start l.t)

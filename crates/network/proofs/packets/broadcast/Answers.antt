@@ -10,46 +10,30 @@ use Rattle.base.proofs.Loops.{below-yes, below-no, below_next, map-below-yes, ma
 use Rattle.model.specs.Memory as model
 use Rattle.model.specs.Memory.{link_in, air_limit}
 use Rattle.model.specs.Calls.{packet}
-use Rattle.model.proofs.Links.{link_at}
 use Rattle.network.specs.View.{body_of, packets_of}
 use Rattle.network.proofs.Bounds.{array-length}
 use Rattle.network.proofs.PacketLaws.{held_more}
 use Rattle.network.proofs.packets.broadcast.Goals as goal
-use Rattle.network.proofs.packets.broadcast.Goals.{then-joined, else-joined}
+use Rattle.network.proofs.packets.broadcast.Goals.{then-link_up, else-link_up}
 
 -- Where b is a neighbour there is room for its copy.
 room :
-    (links : List Bool) (a n count b end : ℕ) → b < n → link_in links a b ≡ true → end ≡ count + length (below b (link_in links a))
+    (links : List Bool) (a n count b end : ℕ) {up : Bool} → b < n → up ≡ link_in links a b → up ≡ true → end ≡ count + length (below b (link_in links a))
     → count + length (below n (link_in links a)) ≤ air_limit → end < air_limit
-room links a n count b end h linked e fits = omega (arith, below_next (link_in links a) b n (omega arith) linked)
+room links a n count b end h linked passed e fits = omega (arith, below_next (link_in links a) b n (omega arith) (sym linked ∙ passed))
 
 pub loop-b-init : goal.loop-b-init
 unfolding below
 loop-b-init c =
-    (omega arith, omega arith, record { room = array-length c.args.packets c.well_formed.0; list = sym (append-nil (packets_of c.args.packets c.args.count)) })
+    (omega arith, record { room = array-length c.args.packets c.well_formed.0; list = sym (append-nil (packets_of c.args.packets c.args.count)) })
 
-pub overflow_cast-at : goal.overflow_cast-at
-overflow_cast-at c =
-    let linked = sym (c.joined.ensures ∙ link_at _ _ _ _ c.pair_place-pair.ensures) ∙ c.if-joined.true in
-    let under = room c.args.links c.args.a c.args.n c.args.count _ _ (omega arith) linked c.loop-b.invariant.1 c.requires.a_bound in
-    record { fits = omega (arith, under) }
-
-pub offset_bounds-packets-at : goal.offset_bounds-packets-at
-offset_bounds-packets-at c =
-    let linked = sym (c.joined.ensures ∙ link_at _ _ _ _ c.pair_place-pair.ensures) ∙ c.if-joined.true in
-    let under = room c.args.links c.args.a c.args.n c.args.count _ _ (omega arith) linked c.loop-b.invariant.1 c.requires.a_bound in
-    record { fits = omega (arith, under) }
-
-pub bounds-packets-at : goal.bounds-packets-at
-bounds-packets-at c =
-    let linked = sym (c.joined.ensures ∙ link_at _ _ _ _ c.pair_place-pair.ensures) ∙ c.if-joined.true in
-    let under = room c.args.links c.args.a c.args.n c.args.count _ _ (omega arith) linked c.loop-b.invariant.1 c.requires.a_bound in
-    under
+pub bounds-packets-end : goal.bounds-packets-end
+bounds-packets-end c =
+    room c.args.links c.args.a c.args.n c.args.count _ _ (omega arith) c.link_up.ensures c.if-link_up.true c.loop-b.invariant.0 c.requires.a_bound
 
 pub overflow_add-end : goal.overflow_add-end
 overflow_add-end c =
-    let linked = sym (c.joined.ensures ∙ link_at _ _ _ _ c.pair_place-pair.ensures) ∙ c.if-joined.true in
-    let under = room c.args.links c.args.a c.args.n c.args.count _ _ (omega arith) linked c.loop-b.invariant.1 c.requires.a_bound in
+    let under = room c.args.links c.args.a c.args.n c.args.count _ _ (omega arith) c.link_up.ensures c.if-link_up.true c.loop-b.invariant.0 c.requires.a_bound in
     record { fits = omega (arith, under) }
 
 pub loop-b-preserved : goal.loop-b-preserved
@@ -58,21 +42,18 @@ loop-b-preserved c =
     let at = c.loop-b in
     let up = link_in args.links args.a in
     let copy : ℕ → model.Packet = λ x. packet args.a x (body_of args.p) args.p.serial in
-    let linked = sym (c.joined.ensures ∙ link_at _ _ _ _ c.pair_place-pair.ensures) in
-    elim c.if-joined.branch [
-      | then-joined w ↦
-          let yes = linked ∙ w.if-joined.true in
+    elim c.if-link_up.branch [
+      | then-link_up w ↦
+          let yes = sym c.link_up.ensures ∙ w.if-link_up.true in
           let more = ap length (below-yes up at.b yes) ∙ length-append (below at.b up) (at.b ∷ []) in (
-            omega arith,
-            omega (arith, w.end-is, more, at.invariant.1),
+            omega (arith, w.end-is, more, at.invariant.0),
             rw (w.packets-is, w.end-is, map-below-yes up copy (packets_of args.packets args.count) at.b yes, ← w.addressed.ensures)
-                (held_more _ _ _ at.invariant.2 _ (room args.links args.a args.n args.count _ _ (omega arith) yes at.invariant.1 c.requires.a_bound)),
+                (held_more _ _ _ at.invariant.1 _ (room args.links args.a args.n args.count _ _ (omega arith) c.link_up.ensures w.if-link_up.true at.invariant.0 c.requires.a_bound)),
           )
-      | else-joined w ↦
-          let no = linked ∙ w.if-joined.false in (
-            omega arith,
-            omega (arith, w.end-is, ap length (below-no up at.b no), at.invariant.1),
-            rw (w.packets-is, w.end-is, map-below-no up copy (packets_of args.packets args.count) at.b no) at.invariant.2,
+      | else-link_up w ↦
+          let no = sym c.link_up.ensures ∙ w.if-link_up.false in (
+            omega (arith, w.end-is, ap length (below-no up at.b no), at.invariant.0),
+            rw (w.packets-is, w.end-is, map-below-no up copy (packets_of args.packets args.count) at.b no) at.invariant.1,
           )
     ]
 
@@ -80,4 +61,4 @@ pub returns : goal.returns
 returns c =
     let inv = c.loop-b.invariant in
     let e : c.loop-b.b ≡ c.args.n = omega arith in
-    rw e at (rw inv.1 at inv.2.list)
+    rw e at (rw inv.0 at inv.1.list)

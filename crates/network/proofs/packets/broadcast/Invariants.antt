@@ -1,5 +1,5 @@
--- `packets::broadcast` meets its contract: the neighbours below b have their copies.
-use Prim.Native.Nat.{◌+◌, ◌-◌, ◌≤◌}
+-- The neighbours below b have their copies.
+use Prim.Native.Nat.{◌+◌}
 use mathlib.Core.Path.{◌≡◌}
 use mathlib.Core.List.{◌++◌, map}
 use lib.ListN.{length}
@@ -11,9 +11,5 @@ use Rattle.network.proofs.PacketLaws.{Held}
 use Rattle.network.proofs.packets.broadcast.Given as goal
 
 abbrev pub invariant-loop-b : goal.invariant-loop-b
-invariant-loop-b l = (l.b ≤ l.n)
-    × (l.end ≡ l.count + length (below l.b (link_in l.links l.a)))
+invariant-loop-b l = (l.end ≡ l.count + length (below l.b (link_in l.links l.a)))
     × Held (packets_of l.initial.packets l.count ++ map (λ x. packet l.a x (body_of l.p) l.p.serial) (below l.b (link_in l.links l.a))) l.packets l.end
-
-abbrev pub decreases-loop-b : goal.decreases-loop-b
-decreases-loop-b l = l.n - l.b

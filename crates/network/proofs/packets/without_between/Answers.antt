@@ -14,7 +14,7 @@ use Rattle.network.proofs.packets.without_between.Goals.{then-not-is_between, el
 pub loop-k-init : goal.loop-k-init
 unfolding packets_of tabulate keep
 loop-k-init c =
-    (omega arith, omega arith, record { room = array-length c.args.packets c.well_formed.0; list = refl })
+    (omega arith, record { room = array-length c.args.packets c.well_formed.0; list = refl })
 
 pub loop-k-preserved : goal.loop-k-preserved
 loop-k-preserved c =
@@ -26,15 +26,13 @@ loop-k-preserved c =
       | then-not-is_between w ↦
           let stays : apart args.a args.b (f at.k) ≡ true = ap not (was-false _ _ between w.if-not-is_between.true) in (
             omega arith,
-            omega arith,
             rw (w.next-is, w.left-is, keep-yes (apart args.a args.b) at.k f stays)
-                (held_more _ _ _ at.invariant.2 _ (omega arith)),
+                (held_more _ _ _ at.invariant.1 _ (omega arith)),
           )
       | else-not-is_between w ↦
           let leaves : apart args.a args.b (f at.k) ≡ false = ap not (was-true _ _ between w.if-not-is_between.false) in (
             omega arith,
-            omega arith,
-            rw (w.next-is, w.left-is, keep-no (apart args.a args.b) at.k f leaves) at.invariant.2,
+            rw (w.next-is, w.left-is, keep-no (apart args.a args.b) at.k f leaves) at.invariant.1,
           )
     ]
 
@@ -42,4 +40,4 @@ pub returns : goal.returns
 unfolding packets_of
 returns c =
     let e : c.loop-k.k ≡ c.args.count = omega arith in
-    held-list _ _ _ (rw e at c.loop-k.invariant.2)
+    held-list _ _ _ (rw e at c.loop-k.invariant.1)

@@ -1,32 +1,26 @@
--- `range::air_in_range` meets its contract: the packets before place k pass.
-use mathlib.Core.Path.{sym, ◌∙◌}
-use native.Mathlib.Omega.{arith}
+-- `range::air_in_range` meets its contract: each of the first packets passes.
+use Rattle.std.proofs.Common.{◌↔◌, rules, arith, sym, ◌∙◌, take}
+use Rattle.std.specs.Prelude.{IsTrue, EachIndex}
 use borrow.Author.Tests.{le-leb, lt-leb}
-use Rattle.base.proofs.Booleans.{was-true, was-false}
-use Rattle.base.proofs.Loops.{tabulate-length, all_none, all_more, all-ends, all-broken, all-tabulate}
-use Rattle.model.specs.Memory.{air_in_range}
-use Rattle.network.specs.View.{packets_of}
+use Rattle.base.proofs.Loops.{tabulate-length, all-tabulate}
+use Rattle.model.specs.Memory.{packet_in_range, air_in_range}
+use Rattle.network.specs.View.{zero_packet, packet_of, packets_of}
+use Rattle.network.proofs.Bounds.{packets-length}
+use Rattle.network.proofs.PacketLaws.{packet_in}
+use Rattle.network.proofs.RangeLaws.{all_taken}
 use Rattle.network.proofs.range.air_in_range.Goals as goal
 
-pub returns-then-air-gt-AIR_LIMIT : goal.returns-then-air-gt-AIR_LIMIT
+pub returns-then-air-le-AIR_LIMIT : goal.returns-then-air-le-AIR_LIMIT
 unfolding air_in_range packets_of
-returns-then-air-gt-AIR_LIMIT c = simp (tabulate-length, lt-leb _ _ c.if-air-gt-AIR_LIMIT.true)
+returns-then-air-le-AIR_LIMIT c =
+    let n = c.args.n in
+    let air = c.args.air in
+    let first = take air.count air.packets in
+    let told : IsTrue c.all.result ↔ EachIndex first (λ k. IsTrue (packet_in_range n (packet_in first k))) = search rules in
+    simp (tabulate-length, le-leb _ _ c.if-air-le-AIR_LIMIT.true)
+    (all_taken (λ p. packet_in_range n (packet_of p)) zero_packet _ air.count air.packets (omega (arith, packets-length air c.well_formed.0)) told
+    ∙ sym (all-tabulate _ _ _))
 
-pub loop-k-init : goal.loop-k-init
-loop-k-init c = (omega arith, all_none _)
-
-pub returns-then-not-packet_in_range : goal.returns-then-not-packet_in_range
+pub returns-else-air-le-AIR_LIMIT : goal.returns-else-air-le-AIR_LIMIT
 unfolding air_in_range packets_of
-returns-then-not-packet_in_range c =
-    simp (tabulate-length, le-leb _ _ c.if-air-gt-AIR_LIMIT.false)
-    (sym (all-tabulate _ _ _ ∙ all-broken _ _ _ (omega arith) (was-false _ _ c.packet_in_range.ensures c.if-not-packet_in_range.true)))
-
-pub loop-k-preserved : goal.loop-k-preserved
-loop-k-preserved c =
-    (omega arith, all_more _ _ c.loop-k.invariant.1 (was-true _ _ c.packet_in_range.ensures c.if-not-packet_in_range.false))
-
-pub returns : goal.returns
-unfolding air_in_range packets_of
-returns c =
-    simp (tabulate-length, le-leb _ _ c.if-air-gt-AIR_LIMIT.false)
-    (sym (all-tabulate _ _ _ ∙ all-ends _ _ _ (omega arith) c.loop-k.invariant.1))
+returns-else-air-le-AIR_LIMIT c = simp (tabulate-length, lt-leb _ _ c.if-air-le-AIR_LIMIT.false)

@@ -1,17 +1,17 @@
 -- `range::body_in_range` meets its contract: each answer by its kind of body.
 use mathlib.Core.Path.{sym, ◌∙◌}
 use native.Mathlib.Omega.{arith}
-use Rattle.network.proofs.RangeLaws.{range_none, range-past, range-error, range-headed}
+use Rattle.network.proofs.RangeLaws.{range_other, range-error, range-headed}
 use Rattle.network.proofs.range.body_in_range.Goals as goal
 
-pub returns-then-kind-eq0 : goal.returns-then-kind-eq0
-returns-then-kind-eq0 c = sym (range_none _ _ c.if-kind-eq0.true)
+pub returns-in-1 : goal.returns-in-1
+returns-in-1 c = c.head_in_range.ensures ∙ sym (range-headed _ _ (omega arith) (omega arith))
 
-pub returns-then-kind-gt3 : goal.returns-then-kind-gt3
-returns-then-kind-gt3 c = sym (range-past _ _ c.if-kind-gt3.true)
+pub returns-in-3 : goal.returns-in-3
+returns-in-3 c = c.mask_in_range.ensures ∙ sym (range-error _ _ c.in-3.is)
 
-pub returns-then-kind-eq3 : goal.returns-then-kind-eq3
-returns-then-kind-eq3 c = c.mask_in_range.ensures ∙ sym (range-error _ _ c.if-kind-eq3.true)
+pub returns-in_default : goal.returns-in_default
+returns-in_default c = sym (range_other _ _ (λ e. omega arith) (λ e. omega arith) (λ e. omega arith))
 
-pub returns : goal.returns
-returns c = c.head_in_range.ensures ∙ sym (range-headed _ _ (omega arith) (omega arith))
+pub returns-in_default-2 : goal.returns-in_default-2
+returns-in_default-2 c = sym (range_other _ _ (λ e. omega arith) (λ e. omega arith) (λ e. omega arith))

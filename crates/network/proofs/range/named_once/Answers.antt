@@ -1,19 +1,20 @@
--- `range::named_once` meets its contract: each entry before place k is the first that names its station.
-use mathlib.Core.Path.{sym, ◌∙◌}
-use native.Mathlib.Omega.{arith}
-use Rattle.base.proofs.Loops.{all_none, all_more, all-ends, all-broken}
-use Rattle.network.proofs.RangeLaws.{all_first, named-before, not-before}
+-- `range::named_once` meets its contract: each station is looked for among those before it.
+use Rattle.std.proofs.Common.{◌≡◌, rules, arith, refl, sym, ◌∙◌, get_or}
+use Rattle.std.specs.Option.{is_none}
+use Rattle.std.proofs.lemmas.Iterator.{YieldsList-from_range}
+use Rattle.std.proofs.lemmas.Iterator.Search.{all_from_yields_List}
+use Rattle.base.specs.Lists.{tabulate}
+use Rattle.base.proofs.Ranges.{all-range}
+use Rattle.rows.specs.View.{entry_of}
+use Rattle.rows.specs.Search.{found_at}
+use Rattle.network.proofs.RangeLaws.{first, all_first, first_none}
 use Rattle.network.proofs.range.named_once.Goals as goal
 
-pub loop-k-init : goal.loop-k-init
-loop-k-init c = (omega arith, all_none _)
-
-pub returns-then-found-k : goal.returns-then-found-k
-returns-then-found-k c = sym (all_first _ ∙ all-broken _ _ _ (omega arith) (named-before _ _ _ c.find-found.ensures.place c.if-found-k.true))
-
-pub loop-k-preserved : goal.loop-k-preserved
-loop-k-preserved c =
-    (omega arith, all_more _ _ c.loop-k.invariant.1 (not-before _ _ _ c.find-found.ensures.place c.if-found-k.false))
-
 pub returns : goal.returns
-returns c = sym (all_first _ ∙ all-ends _ _ _ (omega arith) c.loop-k.invariant.1)
+returns c =
+    let row = c.args.row in
+    all_from_yields_List (first row) _ _ _ c.all.ensures.ran (YieldsList-from_range 0 row.count row.count refl (omega arith))
+    (λ x b q k.
+    let told : b ≡ is_none (found_at (get_or row.stations x 0) (tabulate x (entry_of row))) = search rules in
+    (search rules, told ∙ first_none row x))
+    ∙ all-range row.count _ ∙ sym (all_first row)

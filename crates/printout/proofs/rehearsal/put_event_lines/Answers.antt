@@ -12,7 +12,7 @@ use Rattle.printout.proofs.rehearsal.put_event_lines.Goals as goal
 
 pub loop-i-init : goal.loop-i-init
 unfolding text_first tabulate flat_map
-loop-i-init c = (omega arith, λ net w. puts_none _ _, refl, omega arith)
+loop-i-init c = (λ net w. puts_none _ _, refl, omega arith)
 
 pub loop-i-preserved : goal.loop-i-preserved
 unfolding Told
@@ -20,7 +20,6 @@ loop-i-preserved c =
     let loop = c.loop-i in
     let args = c.args in
     let put = c.put_event_line-end in (
-      omega arith,
       (λ net w.
           let told = w loop.i (omega arith) in
           rw (text-more net args.kinds.now args.operands.now loop.i _ _ _ _
@@ -28,8 +27,8 @@ loop-i-preserved c =
           (c.sent_of-sent.ensures _ _ _ _ told.1 told.0)
           (c.air_of-air.ensures _ _ _ _ told.1 told.0)
           (c.hops_of-hops.ensures _ _ _ _ told.1 told.0))
-          (puts-append (loop.invariant.1 net w) put.ensures.puts_at)),
-      put.auto.out ∙ loop.invariant.2,
+          (puts-append (loop.invariant.0 net w) put.ensures.puts_at)),
+      put.auto.out ∙ loop.invariant.1,
       omega arith,
     )
 
@@ -39,4 +38,4 @@ returns c =
     let loop = c.loop-i in
     let args = c.args in
     let whole : loop.i ≡ length args.kinds.now = omega arith in
-    record { puts_at = (λ net w. rw whole at (loop.invariant.1 net w)); upper_bound = omega arith }
+    record { puts_at = (λ net w. rw whole at (loop.invariant.0 net w)); upper_bound = omega arith }

@@ -1,5 +1,5 @@
 -- `rehearsal::put_event_lines` meets its contract: the lines of the first i events are put.
-use Prim.Native.Nat.{◌-◌, ◌*◌, ◌≤◌}
+use Prim.Native.Nat.{◌*◌, ◌≤◌}
 use mathlib.Core.Path.{◌≡◌}
 use lib.ListN.{length}
 use Rattle.model.specs.Memory.{Network}
@@ -10,7 +10,4 @@ use Rattle.printout.proofs.RehearsalLaws.{text_first}
 use Rattle.printout.proofs.rehearsal.put_event_lines.Given as goal
 
 abbrev pub invariant-loop-i : goal.invariant-loop-i
-invariant-loop-i l = (l.i ≤ length l.kinds) × ((net : Network) → Told l.lines (length l.kinds) (line_at net l.kinds l.operands) → PutsAt l.initial.out 0 (text_first net l.kinds l.operands l.i) l.end l.out) × (length l.out ≡ length l.initial.out) × (l.end ≤ 40 * l.i)
-
-abbrev pub decreases-loop-i : goal.decreases-loop-i
-decreases-loop-i l = length l.kinds - l.i
+invariant-loop-i l = ((net : Network) → Told l.lines (length l.kinds) (line_at net l.kinds l.operands) → PutsAt l.initial.out 0 (text_first net l.kinds l.operands l.i) l.end l.out) × (length l.out ≡ length l.initial.out) × (l.end ≤ 40 * l.i)

@@ -1,7 +1,7 @@
 -- `rehearsal::put_rehearsal` meets its contract: the lines of the events are put, and after them the labels of the memory that the run left; and what
 -- the run told is tallied.
 use Prim.Native.Nat.{ℕ}
-use mathlib.Core.Path.{◌≡◌, refl, ap, subst, ◌∙◌}
+use mathlib.Core.Path.{◌≡◌, ap, subst, ◌∙◌}
 use mathlib.Core.List.{List}
 use native.Mathlib.Omega.{arith}
 use Rattle.model.specs.Memory.{Network, memory_in_range}
@@ -38,19 +38,16 @@ put_label_lines-length-requires c =
       at_in_bounds = omega (arith, puts-length (c.put_event_lines-end.ensures.puts_at (view c.fresh-memory.result) told), asked.2);
     }
 
-pub returns-clause-puts_at : goal.returns-clause-puts_at
+pub returns : goal.returns
 unfolding view event_lines
-returns-clause-puts_at c =
+returns c =
     let args = c.args in
     let told = told-lines (view c.fresh-memory.result) args.kinds.now args.operands.now _ _ (omega arith) c.run-ran.ensures.fit c.run-ran.ensures.told-are in
     let whole = text-whole args.kinds.now args.operands.now c.fresh-memory.result c.run-ran.result.memory c.run-ran.ensures.ran in
     let is = whole ∙ ap (λ (net : Network). rehearsal_text net args.kinds.now args.operands.now) c.fresh-memory.ensures in
-    subst (λ (t : List ℕ). PutsAt args.out.now 0 t c.put_label_lines-length.result c.put_label_lines-length.new.out) is
-    (puts-append (c.put_event_lines-end.ensures.puts_at (view c.fresh-memory.result) told) c.put_label_lines-length.ensures.puts_at)
-
-pub returns-clause-answer_value : goal.returns-clause-answer_value
-unfolding view event_lines
-returns-clause-answer_value c =
-    let args = c.args in
-    let told = told-lines (view c.fresh-memory.result) args.kinds.now args.operands.now _ _ (omega arith) c.run-ran.ensures.fit c.run-ran.ensures.told-are in
-    (refl, subst (λ (net : Network). tally_in c.tally_of-tally.result ≡ tally_of (event_lines net args.kinds.now args.operands.now)) c.fresh-memory.ensures (c.tally_of-tally.ensures.by_index _ told))
+    record {
+      puts_at = subst (λ (t : List ℕ). PutsAt args.out.now 0 t c.put_label_lines-length.result c.put_label_lines-length.new.out) is
+          (puts-append (c.put_event_lines-end.ensures.puts_at (view c.fresh-memory.result) told) c.put_label_lines-length.ensures.puts_at);
+      tally_value = subst (λ (net : Network). tally_in c.tally_of-tally.result ≡ tally_of (event_lines net args.kinds.now args.operands.now)) c.fresh-memory.ensures (c.tally_of-tally.ensures.by_index _ told);
+      length_le_printout_room = (omega arith, omega arith);
+    }

@@ -5,7 +5,7 @@ use lib.ListN.{length, take}
 use mathlib.Core.List.{List}
 use native.Mathlib.Omega.{arith}
 use Rattle.printout.specs.Printed.{Prints}
-use Rattle.printout.proofs.RehearsalLaws.{routes-loop-free, tally-fits, take_min, prints-whole}
+use Rattle.printout.proofs.RehearsalLaws.{take_min, prints-whole}
 use Rattle.printout.proofs.rehearsal.rehearse_input.Goals as goal
 
 pub returns-clause-text : goal.returns-clause-text
@@ -13,12 +13,6 @@ returns-clause-text c =
     let input = c.args.input.now in
     let out = c.args.out.now in
     let out' = c.rehearse.new.out in
-    let counted : take c.least-end.result input ≡ take c.args.count input = rw c.least-end.ensures (take_min c.args.count input) in
+    let counted : take c.min-end.result input ≡ take c.args.count input = rw c.min-end.ensures (take_min c.args.count _ input (omega arith)) in
     let put = subst (λ (b : List ℕ). Prints b out c.rehearse.result out') counted c.rehearse.ensures.text in
     λ whole e. prints-whole (length input) c.args.count input whole out c.rehearse.result out' (omega arith) e put
-
-pub returns-clause-loop_free : goal.returns-clause-loop_free
-returns-clause-loop_free c = λ whole. routes-loop-free whole _
-
-pub returns-clause-tally : goal.returns-clause-tally
-returns-clause-tally c = λ whole. tally-fits whole _

@@ -55,8 +55,8 @@ run-ran-requires c =
     let ranged = was-true _ _ c.in_range.ensures c.if-not-in_range.false in
     record { memory_value = ranged; kinds_len_bound = (w.0, w.1, omega arith); lines_value = λ d. clash d refl }
 
-pub tally_of-tally-requires : goal.tally_of-tally-requires
-tally_of-tally-requires c =
+pub tally_of-requires : goal.tally_of-requires
+tally_of-requires c =
     let w = events-tell _ _ (sym c.not_events.ensures ∙ c.if-not_events.false) in
     (w.0, search rules)
 
@@ -66,6 +66,6 @@ returns c =
     let ranged = was-true _ _ c.in_range.ensures c.if-not-in_range.false in
     let all = was-true _ _ c.all_events.ensures c.if-not-all_events.false in
     let ran = c.run-ran.ensures in
-    let tally = c.tally_of-tally.ensures.by_index _ (told-lines _ _ _ _ _ (omega arith) ran.fit ran.told-are) in
+    let tally = c.tally_of.ensures.by_index _ (told-lines _ _ _ _ _ (omega arith) ran.fit ran.told-are) in
     let both = run-accepted _ _ _ _ few ranged all _ _ ran.ran (sized _ c.well_formed.0) (omega arith) ran.told-are ran.fit _ tally in
     record { run = both.0; told = both.1.0; tallied = both.1.1.0; limit = both.1.1.1.0; loop_free = both.1.1.1.1.0; reached = both.1.1.1.1.1.0; fits = both.1.1.1.1.1.1 }

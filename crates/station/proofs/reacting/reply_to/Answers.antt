@@ -8,4 +8,4 @@ pub returns : goal.returns
 unfolding packet_of
 returns c =
     let is = c.addressed.ensures in
-    record { result_value = ap (λ (q : model.Packet). q.body) is ∙ c.reply.ensures; sender_value = (ap (λ (q : model.Packet). q.sender) is, ap (λ (q : model.Packet). q.receiver) is) }
+    record { result_value = ap (λ (q : model.Packet). q.body) is ∙ c.reply-body.ensures; sender_value = (ap (λ (q : model.Packet). q.sender) is, ap (λ (q : model.Packet). q.receiver) is) }

@@ -4,4 +4,4 @@ use Rattle.station.proofs.ReplyLaws.{entry-with, holding-adopts}
 use Rattle.station.proofs.replies.adopts.Goals as goal
 
 pub returns : goal.returns
-returns c = record { net_value = λ net k. holding-adopts net _ _ k _ _ (c.adopted-next.ensures ∙ entry-with _ _ refl refl refl); kept = refl }
+returns c = record { net_value = λ net k. holding-adopts net _ _ k _ _ (c.adopted.ensures ∙ entry-with _ _ refl refl refl); kept = refl }

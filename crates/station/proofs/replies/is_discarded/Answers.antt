@@ -1,4 +1,4 @@
--- `replies::is_discarded` meets its contract: the definition.
+-- `replies::is_discarded` meets its contract: the two tests.
 use Rattle.station.proofs.replies.is_discarded.Goals as goal
 
 pub returns : goal.returns

@@ -4,10 +4,10 @@ use Rattle.model.specs.Calls.{matches}
 use Rattle.network.specs.View.{record_of, reply_of}
 use Rattle.station.proofs.replies.matches.Goals as goal
 
-pub returns-then-i-source : goal.returns-then-i-source
+pub returns-then-p : goal.returns-then-p
 unfolding matches reply_of
-returns-then-i-source c = λ net k l. rw (eq-eqb _ _ c.if-i-source.true, l.number_is, l.sought-is)
+returns-then-p c = λ net k l. rw (eq-eqb _ _ c.if-p.true, l.number_is, l.sought-is)
 
-pub returns : goal.returns
+pub returns-else-p : goal.returns-else-p
 unfolding matches reply_of record_of
-returns c = λ net k l. rw (ne_eqb _ _ c.if-i-source.false, k.record_is)
+returns-else-p c = λ net k l. rw (ne_eqb _ _ c.if-p.false, k.record_is)

@@ -7,6 +7,6 @@ pub returns-then-passes_on : goal.returns-then-passes_on
 returns-then-passes_on c = λ net k e.
     c.replying.ensures net k ∙ passed_on net _ _ k _ (sym (c.passes_on.ensures net k e) ∙ c.if-passes_on.true)
 
-pub returns : goal.returns
-returns c = λ net k e.
+pub returns-else-passes_on : goal.returns-else-passes_on
+returns-else-passes_on c = λ net k e.
     c.silent.ensures net k ∙ not-passed-on net _ _ k _ (sym (c.passes_on.ensures net k e) ∙ c.if-passes_on.false)

@@ -22,5 +22,5 @@ unfolding with_number
 returns c = λ net k.
     reacts-twice net _ _ _
     ∙ c.replying-2.ensures _ (holds-holding net _ _ k.inside)
-    ∙ destination-rises net _ _ k c.requires _ c.label_of-next.ensures
+    ∙ destination-rises net _ _ k c.requires _ c.label_of.ensures
     (was-true _ _ c.resets.ensures c.if-not-resets.false) c.if-s-ge18446744073709551615.false

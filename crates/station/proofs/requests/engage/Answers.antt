@@ -4,15 +4,15 @@ use Rattle.station.proofs.Laws.{reacts-copies}
 use Rattle.station.proofs.RequestLaws.{engage-destination, engage-replies, engage-broadcasts}
 use Rattle.station.proofs.requests.engage.Goals as goal
 
-pub returns-then-i-t : goal.returns-then-i-t
-returns-then-i-t c = λ net k. c.at_destination.ensures net k ∙ engage-destination net _ _ k c.if-i-t.true
+pub returns-then-p : goal.returns-then-p
+returns-then-p c = λ net k. c.at_destination.ensures net k ∙ engage-destination net _ _ k c.if-p.true
 
 pub returns-then-can_reply : goal.returns-then-can_reply
 returns-then-can_reply c = λ net k.
     c.replying.ensures net k
-    ∙ engage-replies net _ _ k c.if-i-t.false (sym c.can_reply.ensures ∙ c.if-can_reply.true)
+    ∙ engage-replies net _ _ k c.if-p.false (sym c.can_reply.ensures ∙ c.if-can_reply.true)
 
 pub returns : goal.returns
 returns c = λ net k.
     reacts-copies net _ _ k _ _ _ c.onward.ensures
-    ∙ engage-broadcasts net _ _ k c.if-i-t.false (sym c.can_reply.ensures ∙ c.if-can_reply.false)
+    ∙ engage-broadcasts net _ _ k c.if-p.false (sym c.can_reply.ensures ∙ c.if-can_reply.false)

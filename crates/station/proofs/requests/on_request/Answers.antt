@@ -11,5 +11,5 @@ pub returns : goal.returns
 returns c = λ net k.
     reacts-twice net _ _ _
     ∙ c.engage.ensures _ (holds-holding net _ _ k.inside)
-    ∙ rw (holding-kept net _ _ k _, c.noted-next.ensures)
+    ∙ rw (holding-kept net _ _ k _, c.noted.ensures)
     (request-new net _ _ k (sym c.is_known.ensures ∙ c.if-is_known.false))

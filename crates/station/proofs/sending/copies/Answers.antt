@@ -1,13 +1,14 @@
 -- `sending::copies` meets its contract, by its scope.
 use mathlib.Core.Path.{sym, ◌∙◌}
+use native.Mathlib.Omega.{arith}
 use Rattle.station.proofs.Laws.{sent-none, sent-one, sent-all-length}
 use Rattle.station.proofs.sending.copies.Goals as goal
 
-pub returns-then-scope-eq0 : goal.returns-then-scope-eq0
-returns-then-scope-eq0 c = λ p. rw (c.if-scope-eq0.true, sent-none)
+pub returns-in-0 : goal.returns-in-0
+returns-in-0 c = λ p. rw (c.in-0.is, sent-none)
 
-pub returns-then-scope-eq1 : goal.returns-then-scope-eq1
-returns-then-scope-eq1 c = λ p. rw (c.if-scope-eq1.true, sent-one)
+pub returns-in-1 : goal.returns-in-1
+returns-in-1 c = λ p. rw (c.in-1.is, sent-one)
 
-pub returns : goal.returns
-returns c = λ p. c.neighbour_count.ensures ∙ sym (sent-all-length _ _ _ p _ c.if-scope-eq0.false c.if-scope-eq1.false)
+pub returns-in_default : goal.returns-in_default
+returns-in_default c = λ p. c.neighbour_count.ensures ∙ sym (sent-all-length _ _ _ p _ (λ e. omega arith) (λ e. omega arith))

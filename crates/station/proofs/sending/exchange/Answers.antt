@@ -16,33 +16,31 @@ use Rattle.network.proofs.PacketLaws.{appended, packets-removed}
 use Rattle.station.proofs.Laws.{sent-none, sent-one, sent-all, sent-all-length}
 use Rattle.station.proofs.sending.exchange.Goals as goal
 
-pub returns-then-scope-eq0 : goal.returns-then-scope-eq0
-returns-then-scope-eq0 c =
+pub returns-in-0 : goal.returns-in-0
+returns-in-0 c =
     let args = c.args in
     let long : length args.packets ≡ air_limit = array-length args.packets c.well_formed.0 in
     let rest : List Packet = removed args.k args.last args.packets in
     let rest-is : packets_of rest args.last ≡ remove_at args.k (packets_of args.packets (args.last + 1)) = packets-removed _ _ _ (omega arith) (omega (arith, long)) in
-    rw (c.if-scope-eq0.true, sent-none, add-zero args.last, c.remove.ensures) (rest-is ∙ sym (append-nil _))
+    rw (c.in-0.is, sent-none, add-zero args.last, c.remove.ensures) (rest-is ∙ sym (append-nil _))
 
-pub returns-then-scope-eq1 : goal.returns-then-scope-eq1
-returns-then-scope-eq1 c =
+pub returns-in-1 : goal.returns-in-1
+returns-in-1 c =
     let args = c.args in
     let long : length args.packets ≡ air_limit = array-length args.packets c.well_formed.0 in
     let rest : List Packet = removed args.k args.last args.packets in
     let rest-is : packets_of rest args.last ≡ remove_at args.k (packets_of args.packets (args.last + 1)) = packets-removed _ _ _ (omega arith) (omega (arith, long)) in
     let rest-length : length rest ≡ air_limit = removed-length _ _ _ (omega arith) (omega (arith, long)) ∙ long in
-    rw (c.if-scope-eq1.true, sent-one, c.replace.ensures) (appended _ _ _ rest-length (omega arith) ∙ ap (λ (l : List model.Packet). l ++ (packet_of args.p ∷ [])) rest-is)
+    rw (c.in-1.is, sent-one, c.replace.ensures) (appended _ _ _ rest-length (omega arith) ∙ ap (λ (l : List model.Packet). l ++ (packet_of args.p ∷ [])) rest-is)
 
 pub broadcast-requires : goal.broadcast-requires
 broadcast-requires c =
-    record { n_bound = (omega arith, omega arith); a_bound = rw (sent-all-length _ _ _ _ _ c.if-scope-eq0.false c.if-scope-eq1.false) at c.requires.p_bound }
+    record { n_bound = (omega arith, omega arith); a_bound = rw (sent-all-length _ _ _ _ c.args.scope (λ e. omega arith) (λ e. omega arith)) at c.requires.p_bound }
 
-pub returns : goal.returns
-returns c =
+pub returns-in_default : goal.returns-in_default
+returns-in_default c =
     let args = c.args in
     let long : length args.packets ≡ air_limit = array-length args.packets c.well_formed.0 in
     let rest : List Packet = removed args.k args.last args.packets in
     let rest-is : packets_of rest args.last ≡ remove_at args.k (packets_of args.packets (args.last + 1)) = packets-removed _ _ _ (omega arith) (omega (arith, long)) in
-    let some = c.if-scope-eq0.false in
-    let all = c.if-scope-eq1.false in
-    rw (sent-all-length _ _ _ _ _ some all, sent-all _ _ _ _ _ some all, ← rest-is) (rw c.remove-2.ensures at c.broadcast.ensures)
+    rw (sent-all-length _ _ _ _ c.args.scope (λ e. omega arith) (λ e. omega arith), sent-all _ _ _ _ c.args.scope (λ e. omega arith) (λ e. omega arith), ← rest-is) (rw c.remove-in_default.ensures at c.broadcast.ensures)

@@ -11,5 +11,5 @@ returns-then-kind-eq2 c = c.apart_count.ensures ∙ ap length (sym (rest-down _ 
 pub overflow_sub-result : goal.overflow_sub-result
 overflow_sub-result c = let there = c.requires.1 c.if-kind-eq2.false in search rules
 
-pub returns : goal.returns
-returns c = sym (rest-one-less _ _ _ _ _ _ c.if-kind-eq2.false (c.requires.1 c.if-kind-eq2.false))
+pub returns-else-kind-eq2 : goal.returns-else-kind-eq2
+returns-else-kind-eq2 c = sym (rest-one-less _ _ _ _ _ _ c.if-kind-eq2.false (c.requires.1 c.if-kind-eq2.false))

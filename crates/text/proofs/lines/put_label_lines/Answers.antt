@@ -12,19 +12,18 @@ use Rattle.text.proofs.lines.put_label_lines.Goals as goal
 
 pub loop-i-init : goal.loop-i-init
 unfolding label_lines flat_map
-loop-i-init c = (omega arith, puts_none _ _, omega arith)
+loop-i-init c = (puts_none _ _, omega arith)
 
 pub put_station_lines-end-requires : goal.put_station_lines-end-requires
 put_station_lines-end-requires c =
     let ranged = in-range-ranged c.args.memory (sized c.args.memory c.well_formed.1.1.0) c.requires.memory_value in
-    record { memory_value = (c.requires.memory_value, omega arith); n_in_bounds = omega (arith, ranged.high, puts-length c.loop-i.invariant.1) }
+    record { memory_value = (c.requires.memory_value, omega arith); n_in_bounds = omega (arith, ranged.high, puts-length c.loop-i.invariant.0) }
 
 pub loop-i-preserved : goal.loop-i-preserved
 loop-i-preserved c =
     let loop = c.loop-i in
     let ranged = in-range-ranged c.args.memory (sized c.args.memory c.well_formed.1.1.0) c.requires.memory_value in (
-      omega arith,
-      rw (lines_more (view c.args.memory) loop.i) (puts-append loop.invariant.1 c.put_station_lines-end.ensures.puts_at),
+      rw (lines_more (view c.args.memory) loop.i) (puts-append loop.invariant.0 c.put_station_lines-end.ensures.puts_at),
       omega (arith, ranged.high),
     )
 
@@ -32,4 +31,4 @@ pub returns : goal.returns
 returns c =
     let whole : c.loop-i.i ≡ c.args.memory.n = omega arith in
     let ranged = in-range-ranged c.args.memory (sized c.args.memory c.well_formed.1.1.0) c.requires.memory_value in
-    record { puts_at = rw whole at c.loop-i.invariant.1; upper_bound = omega (arith, ranged.high) }
+    record { puts_at = rw whole at c.loop-i.invariant.0; upper_bound = omega (arith, ranged.high) }

@@ -1,5 +1,5 @@
 -- `lines::put_label_lines` meets its contract: the lines of the stations below i are put, of at most 16 · 69 bytes each.
-use Prim.Native.Nat.{◌+◌, ◌-◌, ◌*◌, ◌≤◌}
+use Prim.Native.Nat.{◌+◌, ◌*◌, ◌≤◌}
 use mathlib.Core.List.{flat_map}
 use Rattle.model.specs.Printout.{label_lines}
 use Rattle.network.specs.View.{view}
@@ -8,7 +8,4 @@ use Rattle.text.specs.TextContracts.{PutsAt}
 use Rattle.text.proofs.lines.put_label_lines.Given as goal
 
 abbrev pub invariant-loop-i : goal.invariant-loop-i
-invariant-loop-i l = (l.i ≤ l.n) × PutsAt l.initial.out l.at (flat_map label_text (label_lines (view l.memory) l.i)) l.end l.out × (l.end ≤ l.at + 1_104 * l.i)
-
-abbrev pub decreases-loop-i : goal.decreases-loop-i
-decreases-loop-i l = l.n - l.i
+invariant-loop-i l = PutsAt l.initial.out l.at (flat_map label_text (label_lines (view l.memory) l.i)) l.end l.out × (l.end ≤ l.at + 1_104 * l.i)

@@ -1,0 +1,50 @@
+-- Chains over the numbers of a range, or over the first elements of a list: what a filter leaves, and tests that agree.
+use Prim.Native.Nat.{ℕ, zero, suc, ◌≤◌, ◌<◌}
+use mathlib.Core.Path.{◌≡◌, refl, sym, ap, ap₂, ◌∙◌}
+use mathlib.Core.Bool.{Bool, true, false, cond, ◌&&◌}
+use mathlib.Core.List.{List, [], ◌∷◌, ◌++◌, map}
+use lib.ListN.{length, get_or, take}
+use lib.Seq.{get_or-take, length-take-le}
+use native.Mathlib.Omega.{arith}
+use native.Mathlib.Numerals.{add-one}
+use native.Mathlib.Nat.{zero-add}
+use Rattle.std.specs.Prelude.{if◌then◌else◌}
+use Rattle.std.specs.List.{range_with_len, filter}
+use Rattle.std.proofs.lemmas.List.{map-id}
+use Rattle.std.proofs.lemmas.List.FromFn.{filter_of_map_range_with_len_more}
+use Rattle.base.specs.Lists.{all_below, below, keep, tabulate}
+use Rattle.base.proofs.Loops.{tabulate-same, tabulate-map}
+
+mapped-range : (n : ℕ) (f : ℕ → Bool) → filter f (map (λ x. x) (range_with_len 0 n)) ≡ below n f
+unfolding below
+mapped-range zero f = refl
+mapped-range (suc n) f =
+    rw add-one at (filter_of_map_range_with_len_more f (λ x. x) 0 n n (zero-add n))
+    ∙ ap (λ (l : List ℕ). l ++ (if f n then n ∷ [] else [])) (mapped-range n f)
+
+pub filter-range : (n : ℕ) (f : ℕ → Bool) → filter f (range_with_len 0 n) ≡ below n f
+filter-range n f = ap (filter f) (sym (map-id (range_with_len 0 n))) ∙ mapped-range n f
+
+pub all-same : (n : ℕ) (f g : ℕ → Bool) → ((k : ℕ) → k < n → f k ≡ g k) → all_below n f ≡ all_below n g
+unfolding all_below
+all-same zero f g h = refl
+all-same (suc n) f g h = ap₂ ◌&&◌ (all-same n f g (λ k l. h k (omega arith))) (h n (omega arith))
+
+-- As many elements pass as are kept of what they are read as.
+module _ {A B : Type 0} (test : B → Bool) (g : A → B) where
+  kept-length : (l : List A) → length (filter (λ x. test (g x)) l) ≡ length (keep test (map g l))
+  unfolding keep
+  kept-length [] = refl
+  kept-length (x ∷ l) = go (test (g x)) (kept-length l)
+    where
+      go : (b : Bool) → length (filter (λ y. test (g y)) l) ≡ length (keep test (map g l))
+          → length (cond b (x ∷ filter (λ y. test (g y)) l) (filter (λ y. test (g y)) l)) ≡ length (if b then g x ∷ keep test (map g l) else keep test (map g l))
+      go true h = ap suc h
+      go false h = h
+
+  pub count-taken : (d : A) (n : ℕ) (l : List A) → n ≤ length l
+      → length (filter (λ x. test (g x)) (take n l)) ≡ length (keep test (tabulate n (λ k. g (get_or l k d))))
+  count-taken d n l h =
+      kept-length (take n l)
+      ∙ ap (λ z. length (keep test z))
+      (sym (tabulate-map g (take n l) n d (length-take-le n l h)) ∙ tabulate-same n _ _ (λ k m. ap g (get_or-take n l k d m)))
