@@ -1,4 +1,5 @@
-// Sending a packet to nobody, to its receiver, or to each up neighbour.
+// Sending a packet to nobody, to its receiver, or to each up neighbour. Inlined, where packets go by value, so that a call copies them less often
+// (docs/SPEED.md).
 ghost use Rattle.std.specs.Prelude.{◌≡◌, ◌++◌, ℕ, ◌+◌, ◌<◌, ◌≤◌, length};
 ghost use Rattle.base.specs.Lists.{remove_at};
 ghost use Rattle.model.specs.Memory.{Network, error, air_limit};
@@ -25,6 +26,7 @@ pub fn copies(scope: u8, links: [bool; 256], n: u8, a: u8) -> u8
 }
 
 // The packets with these from place `count` on.
+#[inline(always)]
 pub fn transmit(
     packets: [Packet; AIR_LIMIT as usize],
     count: u8,
@@ -46,6 +48,7 @@ pub fn transmit(
 }
 
 // The packets without packet k, which is one of the first `last` + 1, and with these from place `last` on.
+#[inline(always)]
 pub fn exchange(
     packets: [Packet; AIR_LIMIT as usize],
     last: u8,

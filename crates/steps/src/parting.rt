@@ -65,6 +65,7 @@ pub fn parted(
 }
 
 // The packets without packet k where it goes, of which there are `left`, with what a sends.
+#[inline(always)]
 pub(crate) fn moved(
     packets: [Packet; AIR_LIMIT as usize],
     left: u8,
@@ -89,6 +90,7 @@ pub(crate) fn moved(
 }
 
 // The packets where rows are cut: at Down those that are not between a and b, at an error all but packet k, with what a, then b, sends.
+#[inline(always)]
 pub(crate) fn cut_air(
     kind: u8,
     packets: [Packet; AIR_LIMIT as usize],
