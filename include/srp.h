@@ -32,7 +32,7 @@
  * A station keeps its last one, a packet carries that of its sending, and an entry of a row keeps that
  * of the reply that made it.
  *
- * STACK. A call uses the caller's stack and allocates nothing. Up to 242,760 bytes were measured
+ * STACK. A call uses the caller's stack and allocates nothing. Up to 214,680 bytes were measured
  * (docs/LAYOUT.md, "Stack"); the library's tests fail where a call needs over 262,144.
  *
  * LINKING. The library needs memcpy and memset, and no other function.

@@ -13,7 +13,6 @@ use borrow.Rule.Slice.PartMut.{put_mid}
 use mir.Syntax.{w8}
 use mir.Val.{Fits}
 use Rattle.std.specs.Int.{w64, byte_at as low_byte, byte_worth, bytes_low_first, sum_through, to_le_bytes}
-use Rattle.std.proofs.lemmas.List.{take_rest}
 use Rattle.base.specs.Results.{Result, refused, accepted, mapped}
 use Rattle.codec.specs.Bytes.{is_width, little_endian, number, byte_at, number_at, over, put_into, Puts, AllBytes}
 
@@ -118,10 +117,24 @@ number_first bytes (suc k) h =
     rw (number_first bytes k (omega arith), take-suc bytes (suc k) 0 h, number_append (take (suc k) bytes) (get_or bytes (suc k) 0 ∷ []), long)
     (omega (arith, mul_comm (256 ^ suc k) (get_or bytes (suc k) 0)))
 
-pub number-read : (bytes part : List ℕ) (at k v : ℕ) → at + suc k ≤ length bytes → part ≡ take (suc k) (take (length bytes - at) (drop at bytes))
-    → v ≡ sum_through (λ i. byte_worth i (get_or part i 0)) k → v ≡ number_at (suc k) bytes at
-number-read bytes part at k v room first e =
-    let same : part ≡ take (suc k) (drop at bytes) = first ∙ ap (take (suc k)) (take_rest bytes at) in
+-- So many bytes, one by one, from i places after `at` on.
+abbrev pub listed : (k : ℕ) → List ℕ → (at i : ℕ) → List ℕ
+listed zero bytes at i = []
+listed (suc k) bytes at i = get_or bytes (at + i) 0 ∷ listed k bytes at (suc i)
+
+listed-take : (k : ℕ) (bytes : List ℕ) (at i : ℕ) → at + i + k ≤ length bytes → listed k bytes at i ≡ take k (drop (at + i) bytes)
+listed-take zero bytes at i h = refl
+listed-take (suc k) bytes at i h =
+    let next : at + suc i ≡ suc (at + i) = omega arith in
+    rw (drop-cons bytes (at + i) 0 (omega arith)) (ap (λ l. get_or bytes (at + i) 0 ∷ l) (listed-take k bytes at (suc i) (omega arith) ∙ rw next refl))
+
+pub number-listed : (bytes : List ℕ) (at k v : ℕ) → at + suc k ≤ length bytes
+    → v ≡ sum_through (λ i. byte_worth i (get_or (get_or bytes at 0 ∷ listed k bytes at 1) i 0)) k → v ≡ number_at (suc k) bytes at
+number-listed bytes at k v room e =
+    let part = get_or bytes at 0 ∷ listed k bytes at 1 in
+    let next : at + 1 ≡ suc at = omega arith in
+    let same : part ≡ take (suc k) (drop at bytes) =
+    rw (drop-cons bytes at 0 (omega arith)) (ap (λ l. get_or bytes at 0 ∷ l) (listed-take k bytes at 1 (omega arith) ∙ rw next refl)) in
     let long : length part ≡ suc k = ap length same ∙ length-take-le (suc k) (drop at bytes) (omega (arith, length-drop at bytes)) in
     e ∙ number_first part k (omega arith) ∙ ap number (take_all (suc k) part (omega arith) ∙ same)
 
@@ -133,11 +146,16 @@ pub number-one : (bytes : List ℕ) (at : ℕ) → at < length bytes → number_
 unfolding number
 number-one bytes at h = rw (drop-cons bytes at 0 h) (omega arith)
 
--- Numbers of 8 bits are bytes, and parts of bytes are bytes.
+-- Numbers of 8 bits are bytes, and what is made of bytes is bytes.
 pub all-bytes : (l : List ℕ) → ((i : ℕ) → Fits w8 (get_or l i 0)) → AllBytes l
 unfolding AllBytes
 all-bytes [] h = tt
 all-bytes (x ∷ l) h = ((h 0).fits, all-bytes l (λ i. h (suc i)))
+
+pub bytes-append : (xs ys : List ℕ) → AllBytes xs → AllBytes ys → AllBytes (xs ++ ys)
+unfolding AllBytes
+bytes-append [] ys h k = k
+bytes-append (x ∷ xs) ys h k = (h.0, bytes-append xs ys h.1 k)
 
 pub bytes_take : (k : ℕ) (l : List ℕ) → AllBytes l → AllBytes (take k l)
 unfolding AllBytes

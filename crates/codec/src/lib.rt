@@ -7,17 +7,31 @@ ghost use Rattle.std.proofs.lemmas.List.Edits.{sets};
 ghost use Rattle.codec.specs.Bytes.{is_width, little_endian, number_at};
 ghost use Rattle.codec.specs.Fields.{total, entry_bytes, values_at, AllFit, are_widths};
 
-// The number that the bytes from a place on make, the lowest byte first.
+// The number that the bytes from a place on make, the lowest byte first. Byte by byte, which compiles to one load: a part of a slice, as `first_chunk`
+// gives it, would have its length tested again for each number.
 pub fn number_at(bytes: &[u8], at: usize, width: usize) -> u64
     requires { (at + width ≤ length bytes.now) × (is_width width ≡ true) }
     ensures { (result ≡ number_at width bytes.now at) × (result < 256 ^ width) }
 {
-    let rest = &bytes[at..];
     match width {
         1 => u64::from(bytes[at]),
-        2 => u64::from(u16::from_le_bytes(*rest.first_chunk().unwrap())),
-        4 => u64::from(u32::from_le_bytes(*rest.first_chunk().unwrap())),
-        _ => u64::from_le_bytes(*rest.first_chunk().unwrap()),
+        2 => u64::from(u16::from_le_bytes([bytes[at], bytes[at + 1]])),
+        4 => u64::from(u32::from_le_bytes([
+            bytes[at],
+            bytes[at + 1],
+            bytes[at + 2],
+            bytes[at + 3],
+        ])),
+        _ => u64::from_le_bytes([
+            bytes[at],
+            bytes[at + 1],
+            bytes[at + 2],
+            bytes[at + 3],
+            bytes[at + 4],
+            bytes[at + 5],
+            bytes[at + 6],
+            bytes[at + 7],
+        ]),
     }
 }
 
@@ -73,5 +87,8 @@ pub fn put_bytes(out: &mut [u8], at: usize, bytes: &[u8])
     requires { at + length bytes.now ≤ length out.old }
     ensures { out.new ≡ sets out.old at bytes.now }
 {
-    out[at..at + bytes.len()].copy_from_slice(bytes);
+    // Not by `copy_from_slice`, which needs `memmove` of the program that the library is linked to.
+    for i in 0..bytes.len() {
+        out[at + i] = bytes[i];
+    }
 }

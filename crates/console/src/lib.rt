@@ -60,7 +60,8 @@ fn packed_tally(answer: u32, length: u32, tally: Tally) -> u64
     )
 }
 
-// Whether the memory that stands in the bytes is out of range.
+// Whether the memory that stands in the bytes is out of range. Not inlined, so that what shows a part needs no stack for a memory of its own.
+#[inline(never)]
 #[tactic(auto, unfolding(crate::specs::Showing::out_of_range))]
 fn out_of_range(bytes: &[u8]) -> bool
     ensures { result ≡ out_of_range bytes.now }

@@ -95,7 +95,8 @@ impl Entry<5> for Successor {
     ghost widths_law = { (refl, refl) };
 }
 
-// The row at a place.
+// The row at a place. Inlined: a table of rows is filled with no copy of each, and a search reads no labels (docs/SPEED.md).
+#[inline(always)]
 pub fn read_row(bytes: &[u8], at: usize) -> Row
     requires { at + row_wide ≤ length bytes.now }
     ensures { row_of result ≡ stored_row bytes.now at }

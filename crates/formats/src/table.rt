@@ -43,7 +43,8 @@ pub trait Stored: Copy {
     ghost Room: { Model → Type 0 };
 
     // What a table is filled with before it is read.
-    fn blank() -> Self;
+    fn blank() -> Self
+        ensures { model result ≡ zero };
 
     fn read(bytes: &[u8], at: usize) -> Self
         requires { at + BYTES ≤ length bytes.now }
@@ -109,6 +110,7 @@ impl Stored for Row {
     ghost wide = { counted-wide successor_bytes _ (written-wide successor_format) row_limit zero_successor };
 }
 
+#[tactic(auto, unfolding(network::specs::View::record_of, model::specs::Memory::zero_record, model::specs::Memory::zero_label))]
 impl Stored for Record {
     ghost Model = { model.Record };
 
@@ -180,6 +182,7 @@ impl Stored for bool {
     ghost wide = { written-wide link_format };
 }
 
+#[tactic(auto, unfolding(network::specs::View::packet_of, network::specs::View::body_of, model::specs::Memory::zero_packet))]
 impl Stored for Packet {
     ghost Model = { model.Packet };
 

@@ -19,11 +19,11 @@ use Rattle.label.proofs.Range.{assigned-in-range, range-cases, InRange, is-unass
 use Rattle.label.proofs.Order.{above_lower, above-higher, Ordered, by_number, by_fraction, ≻-ordered, ordered-≻, ≻-number, ⪰-number, above_same, ≻-irreflexive, ≻-asymmetric, ⪰-≻-transitive}
 
 -- A denominator that fits, and one that doesn't.
-fitting-fits : (s m d : ℕ) → d ≤ max_u32 → fitting s m d ≡ took (label s m d)
+pub fitting-fits : (s m d : ℕ) → d ≤ max_u32 → fitting s m d ≡ took (label s m d)
 unfolding fitting
 fitting-fits s m d h = simp (le-ltb max_u32 d h)
 
-fitting-over : (s m d : ℕ) → max_u32 < d → fitting s m d ≡ gave 114
+pub fitting-over : (s m d : ℕ) → max_u32 < d → fitting s m d ≡ gave 114
 unfolding fitting
 fitting-over s m d h = simp (lt-ltb _ _ h)
 
@@ -59,16 +59,16 @@ pub data Taken (splits : Splitting) (a c v g : Label) : Type 0 where
 
 -- New label, by its cases.
 module _ (splits : Splitting) (a c v : Label) where
-  new-112 : above a v ≡ false → new_label_by splits a c v ≡ gave 112
+  pub new-112 : above a v ≡ false → new_label_by splits a c v ≡ gave 112
   unfolding new_label_by
   new-112 ha = simp ha
 
-  new-113 : above a v ≡ true → above c v ≡ false → new_label_by splits a c v ≡ gave 113
+  pub new-113 : above a v ≡ true → above c v ≡ false → new_label_by splits a c v ≡ gave 113
   unfolding new_label_by
   new-113 ha hc = simp (ha, hc)
 
   module _ (ha : above a v ≡ true) (hc : above c v ≡ true) where
-    new-next : a.s.0 < v.s.0 → c.s.0 < v.s.0 → new_label_by splits a c v ≡ next v
+    pub new-next : a.s.0 < v.s.0 → c.s.0 < v.s.0 → new_label_by splits a c v ≡ next v
     unfolding new_label_by
     new-next la lc = simp (ha, hc, lt-ltb _ _ la, lt-ltb _ _ lc)
 
@@ -76,11 +76,11 @@ module _ (splits : Splitting) (a c v : Label) where
     unfolding new_label_by
     new-split-cached la lc = simp (ha, hc, lt-ltb _ _ la, le-ltb _ _ lc, eq-eqb c.s.0 v.s.0 (omega (arith, ≻-number c v hc)))
 
-    new-own : v.s.0 ≤ a.s.0 → above c a ≡ true → new_label_by splits a c v ≡ took a
+    pub new-own : v.s.0 ≤ a.s.0 → above c a ≡ true → new_label_by splits a c v ≡ took a
     unfolding new_label_by
     new-own la h = simp (ha, hc, le-ltb _ _ la, h)
 
-    new_split : v.s.0 ≤ a.s.0 → above c a ≡ false → new_label_by splits a c v ≡ splits c v
+    pub new_split : v.s.0 ≤ a.s.0 → above c a ≡ false → new_label_by splits a c v ≡ splits c v
     unfolding new_label_by
     new_split la h = simp (ha, hc, le-ltb _ _ la, h)
 

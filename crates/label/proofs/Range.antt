@@ -10,11 +10,11 @@ use Rattle.label.specs.declared.Label.{Label}
 use Rattle.label.specs.Label.{unassigned, is_unassigned, in_range}
 
 -- By cases on the sequence number.
-range-zero : (l : Label) → l.s.0 ≡ 0 → in_range l ≡ eqb l.m 1 && eqb l.d 1
+pub range-zero : (l : Label) → l.s.0 ≡ 0 → in_range l ≡ eqb l.m 1 && eqb l.d 1
 unfolding in_range is_unassigned
 range-zero l e = simp (eq-eqb _ _ e, le-ltb 0 l.s.0 (omega arith), or-false)
 
-range_other : (l : Label) → (l.s.0 ≡ 0 → ⊥) → in_range l ≡ ltb l.m l.d
+pub range_other : (l : Label) → (l.s.0 ≡ 0 → ⊥) → in_range l ≡ ltb l.m l.d
 unfolding in_range is_unassigned
 range_other l e = simp (ne_eqb _ _ e, lt-ltb 0 l.s.0 (omega (arith, e)))
 

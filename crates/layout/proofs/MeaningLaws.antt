@@ -54,16 +54,18 @@ module _ (bytes : List ℕ) where
   unfolding stored_network
   stored_is h = rw h
 
+  pub stored-fresh : not_memory bytes ≡ true → stored_network bytes ≡ fresh 0 0 0
+  unfolding stored_network
+  stored-fresh h = rw h
+
   pub stored-meant : layout_length ≤ length bytes → has_meaning bytes ≡ true → stored_network bytes ≡ network_in bytes
   stored-meant long meant = stored_is (not-memory-long long ∙ ap not meant)
 
   pub stored-short : length bytes < layout_length → stored_network bytes ≡ fresh 0 0 0
-  unfolding stored_network
-  stored-short short = rw (not-memory-short short)
+  stored-short short = stored-fresh (not-memory-short short)
 
   pub stored-unmeant : layout_length ≤ length bytes → has_meaning bytes ≡ false → stored_network bytes ≡ fresh 0 0 0
-  unfolding stored_network
-  stored-unmeant long unmeant = rw (not-memory-long long, unmeant)
+  stored-unmeant long unmeant = stored-fresh (not-memory-long long ∙ ap not unmeant)
 
   pub stored-in-range : memory_in_range (stored_network bytes) ≡ true → not_memory bytes ≡ false
   stored-in-range h = go (not_memory bytes) refl

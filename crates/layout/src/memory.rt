@@ -18,7 +18,7 @@ ghost use Rattle.layout.specs.Written.{network_bytes};
 ghost use Rattle.layout.specs.Fits.{NetworkFits};
 ghost use Rattle.layout.specs.Meaning.{stored_network};
 
-use crate::meaning::Whole;
+use crate::meaning::{Whole, not_memory};
 use crate::places::{
     AIR_AT, LABELS_AT, LIMIT_AT, LINKS_AT, RECORDS_AT, ROWS_AT, SIZE_AT, STATIONS_AT, VERSION,
 };
@@ -137,7 +137,7 @@ pub fn load(bytes: &[u8]) -> Memory
     ensures { view result ≡ stored_network bytes.now }
 {
     match Whole::of(bytes) {
-        Some(whole) if whole.has_meaning() => read(&whole),
+        Some(whole) if !not_memory(bytes) => read(&whole),
         _ => no_stations(),
     }
 }

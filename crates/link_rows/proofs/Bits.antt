@@ -1,20 +1,20 @@
--- Bits of a mask: what shifts, or, and compute.
+-- Bits of a mask: what shifts, or, and compute, and that a mask is its bits.
 use Prim.Native.Nat.{ℕ, zero, suc, ◌+◌, ◌-◌, ◌*◌, ◌/◌, ◌%◌, ◌^◌, ◌≤◌, ◌<◌}
 use mathlib.Core.Path.{◌≡◌, refl, sym, ap, ap₂, ◌∙◌}
 use mathlib.Core.Logic.{◌≢◌}
-use mathlib.Core.Bool.{Bool, true, false}
+use mathlib.Core.Bool.{Bool, true, false, ◌&&◌, ◌||◌}
 use mathlib.Core.List.{List, [], ◌∷◌}
 use lib.ListN.{length, length-append}
 use lib.Dec.{eqb, ltb}
 use lib.Arith.{lt-one}
 use lib.Pow.{shl_exact}
-use lib.Bits.{bit_and, bit_or, and_le_l, or_shifted_r}
+use lib.Bits.{bit_and, bit_or, and_le_l, and_shr, and_mod, or_shr, or_mod, or_shifted_r}
 use lib.Count.{ones, ones_step}
 use native.Mathlib.Nat.{one-mul, add_comm}
 use native.Mathlib.Omega.{arith}
 use borrow.Author.Tests.{eqb-true, eqb-false, ltb-true, ltb-false}
 use mir.Syntax.{w16}
-use Rattle.std.proofs.lemmas.Nat.Bits.{shr_and_one, bit_at_lowest, bit_at-suc, bit_at-zero, bit_at_above, bit_at_set_same, bit_at_set_other, bit_at_clear_same, bit_at_clear_other, same_from_bits}
+use Rattle.std.proofs.lemmas.Nat.Bits.{shr_and_one, bit_at_lowest, bit_at-suc, bit_at-zero, bit_at_above, bit_at_set_same, bit_at_set_other, bit_at_clear_same, bit_at_clear_other, bit_at-lt, same_from_bits, same_from_bits_below}
 use Rattle.std.specs.Prelude.{if◌then◌else◌}
 use Rattle.base.specs.Lists.{below}
 use Rattle.model.specs.Calls.{bit}
@@ -47,6 +47,29 @@ bit-zero u = ap (λ (y : ℕ). eqb y 1) (bit_at-zero u)
 pub bit-above : (w mask u : ℕ) → mask < 2 ^ w → w ≤ u → bit mask u ≡ false
 unfolding bit
 bit-above w mask u h g = ap (λ (y : ℕ). eqb y 1) (bit_at_above mask w u h g)
+
+-- A digit is 0 or 1.
+digit : (P : ℕ → Type 0) → P 0 → P 1 → (k : ℕ) → k < 2 → P k
+digit P a b zero h = a
+digit P a b (suc zero) h = b
+digit P a b (suc (suc k)) h = absurd (omega arith)
+
+-- Or and and, bit by bit.
+pub bit-or : (x y u : ℕ) → bit (bit_or x y) u ≡ bit x u || bit y u
+unfolding bit
+bit-or x y u =
+    ap (λ (z : ℕ). eqb (z % 2) 1) (or_shr x y u) ∙ ap (λ (z : ℕ). eqb z 1) (or_mod (x / 2 ^ u) (y / 2 ^ u) 1)
+    ∙ digit (λ a. eqb (bit_or a (y / 2 ^ u % 2)) 1 ≡ eqb a 1 || eqb (y / 2 ^ u % 2) 1)
+    (digit (λ b. eqb (bit_or 0 b) 1 ≡ eqb b 1) refl refl (y / 2 ^ u % 2) (bit_at-lt y u))
+    (digit (λ b. eqb (bit_or 1 b) 1 ≡ true) refl refl (y / 2 ^ u % 2) (bit_at-lt y u)) (x / 2 ^ u % 2) (bit_at-lt x u)
+
+pub bit-and : (x y u : ℕ) → bit (bit_and x y) u ≡ bit x u && bit y u
+unfolding bit
+bit-and x y u =
+    ap (λ (z : ℕ). eqb (z % 2) 1) (and_shr x y u) ∙ ap (λ (z : ℕ). eqb z 1) (and_mod (x / 2 ^ u) (y / 2 ^ u) 1)
+    ∙ digit (λ a. eqb (bit_and a (y / 2 ^ u % 2)) 1 ≡ eqb a 1 && eqb (y / 2 ^ u % 2) 1)
+    (digit (λ b. eqb (bit_and 0 b) 1 ≡ false) refl refl (y / 2 ^ u % 2) (bit_at-lt y u))
+    (digit (λ b. eqb (bit_and 1 b) 1 ≡ eqb b 1) refl refl (y / 2 ^ u % 2) (bit_at-lt y u)) (x / 2 ^ u % 2) (bit_at-lt x u)
 
 -- `mask | (1 << t)` and `mask & !(1 << t)`, bit by bit.
 module _ (mask t : ℕ) (h : t < 16) where
@@ -86,7 +109,15 @@ bit-without mask t u h g = go (eqb t u) refl
     go true e = rw (← eqb-true t u e) (without-same mask t g)
     go false e = kept (ltb u 16) refl (λ z. eqb-false t u e (sym z))
 
--- A mask without bits from n up is below 2^n.
+-- Masks of w bits with the same bits are the same, and one without bits from n up is below 2^n.
+pub bits-same : (w x y : ℕ) → x < 2 ^ w → y < 2 ^ w → ((u : ℕ) → u < w → bit x u ≡ bit y u) → x ≡ y
+unfolding bit
+bits-same w x y h g e = same_from_bits_below w x y h g (λ u l. same (x / 2 ^ u) (y / 2 ^ u) (eqb (x / 2 ^ u % 2) 1) refl (sym (e u l)))
+  where
+    same : (j k : ℕ) (b : Bool) → eqb (j % 2) 1 ≡ b → eqb (k % 2) 1 ≡ b → j % 2 ≡ k % 2
+    same j k true p q = eqb-true (j % 2) 1 p ∙ sym (eqb-true (k % 2) 1 q)
+    same j k false p q = let zero_j = eqb-false (j % 2) 1 p in let zero_k = eqb-false (k % 2) 1 q in omega arith
+
 pub bits-bound : (w n x : ℕ) → x < 2 ^ w → ((u : ℕ) → n ≤ u → bit x u ≡ false) → x < 2 ^ n
 unfolding bit
 bits-bound w zero x h e =

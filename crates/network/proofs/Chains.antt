@@ -1,13 +1,14 @@
 -- Chains over the numbers of a range, or over the first elements of a list: what a filter leaves, and tests that agree.
-use Prim.Native.Nat.{ℕ, zero, suc, ◌≤◌, ◌<◌}
+use Prim.Native.Nat.{ℕ, zero, suc, ◌+◌, ◌≤◌, ◌<◌}
 use mathlib.Core.Path.{◌≡◌, refl, sym, ap, ap₂, ◌∙◌}
 use mathlib.Core.Bool.{Bool, true, false, cond, ◌&&◌}
 use mathlib.Core.List.{List, [], ◌∷◌, ◌++◌, map}
-use lib.ListN.{length, get_or, take}
+use lib.ListN.{length, get_or, take, length-append}
 use lib.Seq.{get_or-take, length-take-le}
 use native.Mathlib.Omega.{arith}
 use native.Mathlib.Numerals.{add-one}
 use native.Mathlib.Nat.{zero-add}
+use mir.Val.{bool_byte}
 use Rattle.std.specs.Prelude.{if◌then◌else◌}
 use Rattle.std.specs.List.{range_with_len, filter}
 use Rattle.std.proofs.lemmas.List.{map-id}
@@ -24,6 +25,15 @@ mapped-range (suc n) f =
 
 pub filter-range : (n : ℕ) (f : ℕ → Bool) → filter f (range_with_len 0 n) ≡ below n f
 filter-range n f = ap (filter f) (sym (map-id (range_with_len 0 n))) ∙ mapped-range n f
+
+-- One number more counts where it passes.
+pub below-counted : (n : ℕ) (f : ℕ → Bool) → length (below (suc n) f) ≡ length (below n f) + bool_byte (f n)
+unfolding below
+below-counted n f = length-append (below n f) (if f n then n ∷ [] else []) ∙ ap (λ k. length (below n f) + k) (one (f n))
+  where
+    one : (b : Bool) → length (if b then n ∷ [] else []) ≡ bool_byte b
+    one true = refl
+    one false = refl
 
 pub all-same : (n : ℕ) (f g : ℕ → Bool) → ((k : ℕ) → k < n → f k ≡ g k) → all_below n f ≡ all_below n g
 unfolding all_below

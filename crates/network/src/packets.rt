@@ -6,7 +6,7 @@ ghost use Rattle.model.specs.Memory.{link_in, request, reply, error, air_limit};
 ghost use Rattle.model.specs.Calls.{packet, between, drop_between};
 ghost use Rattle.network.specs.View.{zero_packet, body_of, packet_of, packets_of, numbered};
 
-use crate::links::link_up;
+use crate::links::linked;
 use crate::{Packet, RequestNumber};
 use label::{Label, label_of};
 use validation::AIR_LIMIT;
@@ -211,7 +211,7 @@ pub fn broadcast(
 {
     let mut end = count;
     for b in 0..n {
-        if link_up(links, a, b) {
+        if linked(&links, a, b) {
             packets[end as usize] = addressed(p, a, b);
             end += 1;
         }

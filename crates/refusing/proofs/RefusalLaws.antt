@@ -155,7 +155,7 @@ module _ (kind a b : ℕ) (event : not_event kind b ≡ false) where
     trace-event-tests nine e = rw (event-trace kind a b event nine, e) (trace-tests seen)
 
 -- What 13 and 7 tell.
-abbrev used : (first sent second more : ℕ) → Bool
+abbrev pub used : (first sent second more : ℕ) → Bool
 used first sent second more = leb max_u64 first && ltb 0 sent || leb max_u64 second && ltb 0 more
 
 module _ (limit air first sent second more : ℕ) {number : ℕ} (e : number ≡ sending_refusal limit air first sent second more) where

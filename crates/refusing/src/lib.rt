@@ -99,7 +99,8 @@ fn packet_refusal(count: u8, k: u8) -> Result<(), Refusal>
 }
 
 // What turns an event down first, but for 13 and 7: by the number of stations and of packets, and by what station a has: its link with b, whether it
-// is active, and its last request number. The kind is any number, and 11 tells those that are none.
+// is active, and its last request number. The kind is any number, and 11 tells those that are none. Inlined: of an event turned down it is most of the work.
+#[inline(always)]
 pub fn refusal(
     kind: u8,
     a: u8,

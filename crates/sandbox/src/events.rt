@@ -14,13 +14,13 @@ ghost use Rattle.sandbox.specs.Telling.{Tells, tally_of_run};
 
 use network::Memory;
 use network::range::in_range;
-use steps::happening::happen;
+use steps::single::event_in_range;
 use steps::{Happened, running};
 use telling::tally::{Tally, no_events, tally_of};
 use validation::{all_events, not_events};
 
 // An event: the call of its kind on its operands, or a Trace.
-pub fn event(mut memory: Memory, kind: u8, a: u8, b: u8) -> Happened
+pub fn event(memory: Memory, kind: u8, a: u8, b: u8) -> Happened
     ensures { Happens memory (event_of kind a b) result }
 {
     if !in_range(&memory) {
@@ -31,13 +31,7 @@ pub fn event(mut memory: Memory, kind: u8, a: u8, b: u8) -> Happened
             hops: 0,
         };
     }
-    let told = happen(&mut memory, kind, a, b);
-    Happened {
-        memory,
-        answer: told.answer,
-        sent: told.sent,
-        hops: told.hops,
-    }
+    event_in_range(memory, kind, a, b)
 }
 
 // What a run of events gives: the memory after it, its answer, and the tally of its events. The answer as in `steps::Done`.

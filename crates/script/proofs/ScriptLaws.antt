@@ -62,9 +62,9 @@ module _ {A B : Type 0} (f : A → B) where
   unmapped-accepted (refused k) e = not-accepted (sym e)
   unmapped-accepted (accepted x) e = (x, refl, same-accepted e)
 
--- A number that a call is turned down with: nothing is asked of it.
-abbrev pub AnyNumber : ℕ → Type 0
-AnyNumber number = Unit {0}
+-- No number of a refusal is 0.
+abbrev pub Positive : ℕ → Type 0
+Positive number = 0 < number
 
 module _ (bytes : List ℕ) where
   -- Where 10 passes E bytes from place 11 on are the kinds, and 2E from there on the operands: the parts that the code takes.
@@ -113,10 +113,10 @@ module _ (bytes : List ℕ) where
   abbrev pub Parsed : Script → Type 0
   Parsed s = Tested bytes × (s ≡ decoded bytes)
 
-  parsing-ends : Satisfies AnyNumber Parsed (parsing bytes)
+  parsing-ends : Satisfies Positive Parsed (parsing bytes)
   unfolding parsing
   parsing-ends =
-      satisfies-refuse 9 _ _ tt (λ long. satisfies-refuse 10 _ _ tt (λ counted. satisfies-refuse 1 _ _ tt (λ opens. satisfies-refuse 11 _ _ tt (λ all.
+      satisfies-refuse 9 _ _ (omega arith) (λ long. satisfies-refuse 10 _ _ (omega arith) (λ counted. satisfies-refuse 1 _ _ (omega arith) (λ opens. satisfies-refuse 11 _ _ (omega arith) (λ all.
       accepts (record { long = long; counted = counted; opens = opens; all = not-false _ all }, refl)))))
 
   -- The script is read into arrays of so many places.
@@ -138,13 +138,13 @@ module _ (bytes : List ℕ) where
     pub reading-accepted : Tested bytes → no_room (length (decoded bytes).kinds) kinds operands ≡ false → reading bytes kinds operands ≡ accepted (decoded bytes)
     reading-accepted t h = reading-placed t ∙ refuse-passes 12 _ _ h
 
-    pub reading-ends : Satisfies AnyNumber Parsed (reading bytes kinds operands)
+    pub reading-ends : Satisfies Positive Parsed (reading bytes kinds operands)
     unfolding reading ◌and_then◌
     reading-ends = go (parsing bytes) parsing-ends
       where
-        go : (z : Result Script) → Satisfies AnyNumber Parsed z → Satisfies AnyNumber Parsed (z and_then placed)
+        go : (z : Result Script) → Satisfies Positive Parsed z → Satisfies Positive Parsed (z and_then placed)
         go (refused number) (refuses h) = refuses h
-        go (accepted s) (accepts h) = satisfies-refuse 12 _ _ tt (λ e. accepts h)
+        go (accepted s) (accepts h) = satisfies-refuse 12 _ _ (omega arith) (λ e. accepts h)
 
     pub reading-tells : (s : Script) → reading bytes kinds operands ≡ accepted s → Parsed s
     reading-tells s e = satisfies-accepted (reading bytes kinds operands) s reading-ends e
@@ -154,7 +154,7 @@ module _ (bytes : List ℕ) where
   unfolding reading ◌and_then◌
   reading-whole = go (parsing bytes) parsing-ends
     where
-      go : (z : Result Script) → Satisfies AnyNumber Parsed z → z and_then placed event_limit (2 * event_limit) ≡ z
+      go : (z : Result Script) → Satisfies Positive Parsed z → z and_then placed event_limit (2 * event_limit) ≡ z
       go (refused number) h = refl
       go (accepted s) (accepts h) =
           refuse-passes 12 _ _ (ap (λ (x : Script). no_room (length x.kinds) event_limit (2 * event_limit)) h.1 ∙ whole_room h.0.counted)
@@ -190,7 +190,7 @@ pub record FoundIn (bytes : List ℕ) (r : Found) : Type 0 where
   pub kinds : take (11 + r.events - 11) (drop 11 bytes) ≡ (decoded bytes).kinds
   pub operands : take (length bytes - (11 + r.events)) (drop (11 + r.events) bytes) ≡ (decoded bytes).operands
 
-found_in : (bytes : List ℕ) (r : Found) → Tested bytes → r ≡ found_of (decoded bytes) → FoundIn bytes r
+pub found_in : (bytes : List ℕ) (r : Found) → Tested bytes → r ≡ found_of (decoded bytes) → FoundIn bytes r
 found_in bytes r t e =
     let s = sized-tell (event_count bytes) (length bytes) t.counted in
     let k : r.events ≡ event_count bytes = ap (λ (x : Found). x.events) e ∙ kinds-length bytes t.counted in
@@ -204,7 +204,7 @@ found_in bytes r t e =
     }
 
 -- It is told of a script that it reads: so it does.
-pub told-found : (bytes : List ℕ) (z : Result Script) (r : Found) → Satisfies AnyNumber (Parsed bytes) z → accepted r ≡ mapped found_of z
+pub told-found : {P : ℕ → Type 0} (bytes : List ℕ) (z : Result Script) (r : Found) → Satisfies P (Parsed bytes) z → accepted r ≡ mapped found_of z
     → FoundIn bytes r × (z ≡ accepted (decoded bytes))
 told-found bytes z r t e =
     let (s, is, told) = unmapped-accepted found_of z e in
@@ -259,10 +259,10 @@ module _ (s : Script) where
   writing-accepted room l =
       refuse-passes 10 _ _ l.counted ∙ refuse-passes 1 _ _ l.opens ∙ refuse-passes 11 _ _ (ap not l.all) ∙ refuse-passes 12 _ _ l.fits
 
-  pub writing-ends : (room : ℕ) → Satisfies AnyNumber (λ bytes. Listed room × (bytes ≡ encoded s)) (writing s room)
+  pub writing-ends : (room : ℕ) → Satisfies Positive (λ bytes. Listed room × (bytes ≡ encoded s)) (writing s room)
   unfolding writing
   writing-ends room =
-      satisfies-refuse 10 _ _ tt (λ counted. satisfies-refuse 1 _ _ tt (λ opens. satisfies-refuse 11 _ _ tt (λ all. satisfies-refuse 12 _ _ tt (λ fits.
+      satisfies-refuse 10 _ _ (omega arith) (λ counted. satisfies-refuse 1 _ _ (omega arith) (λ opens. satisfies-refuse 11 _ _ (omega arith) (λ all. satisfies-refuse 12 _ _ (omega arith) (λ fits.
       accepts (record { counted = counted; opens = opens; all = not-false _ all; fits = fits }, refl)))))
 
   pub writing-tells : (room : ℕ) (bytes : List ℕ) → writing s room ≡ accepted bytes → Listed room × (bytes ≡ encoded s)

@@ -61,7 +61,7 @@ fn cut_rows(rows: &mut [Row; 256], cut: Cut, turns: u8)
 }
 
 // The two stations lose each other, or the receiver of an error its sender; whose rows are emptied says so to its up neighbours.
-pub(crate) fn cut(memory: &mut Memory, kind: u8, a: u8, b: u8) -> Outcome
+fn cut(memory: &mut Memory, kind: u8, a: u8, b: u8) -> Outcome
     requires passed { Passed memory.old kind a b }
     requires class { class_of kind (carried_by memory.old a) ≡ Cutting }
     ensures { Happening memory.old (event_of kind a b) result memory.new }
@@ -117,4 +117,14 @@ pub(crate) fn cut(memory: &mut Memory, kind: u8, a: u8, b: u8) -> Outcome
         sent: sent + more,
         hops: 0,
     }
+}
+
+// The same out of line: an event that changes one station alone needs no stack for rows and packets that are cut.
+#[inline(never)]
+pub(crate) fn cut_apart(memory: &mut Memory, kind: u8, a: u8, b: u8) -> Outcome
+    requires passed { Passed memory.old kind a b }
+    requires class { class_of kind (carried_by memory.old a) ≡ Cutting }
+    ensures { Happening memory.old (event_of kind a b) result memory.new }
+{
+    cut(memory, kind, a, b)
 }

@@ -1,12 +1,14 @@
 // An event on memory in range, in place: its tests, and then what it does by its class.
-ghost use Rattle.std.specs.Prelude.{◌≡◌};
+ghost use Rattle.std.specs.Prelude.{◌≡◌, if◌then◌else◌};
 ghost use Rattle.model.specs.Events.{event_of};
 ghost use Rattle.validation.specs.Refusal.{number};
-ghost use Rattle.steps.specs.Happens.{outcome, InRange, Happening};
+ghost use Rattle.decisions.specs.Changing.{class_of};
+ghost use Rattle.decisions.specs.declared.changing.Class.TheVariants.{Cutting, Changing};
+ghost use Rattle.steps.specs.Happens.{outcome, InRange, Passed, carried_by, Happening};
 
 use crate::Outcome;
 use crate::changing::change;
-use crate::cutting::cut;
+use crate::cutting::cut_apart;
 use crate::setting::set;
 use crate::walking::walk;
 use decisions::changing::{Class, class_of, spot_of};
@@ -26,7 +28,23 @@ pub(crate) fn turned_down(why: Refusal) -> Outcome
     }
 }
 
-// An event: turned down by a test, or made. The kind is any number, and 11 tells those that are none.
+// An event that may send or drop packets. Not inlined: one that does neither, or is turned down, needs no stack for them.
+#[inline(never)]
+fn act(memory: &mut Memory, cuts: bool, kind: u8, a: u8, b: u8) -> Outcome
+    requires passed { Passed memory.old kind a b }
+    requires class { class_of kind (carried_by memory.old a) ≡ (if cuts then Cutting else Changing) }
+    ensures { Happening memory.old (event_of kind a b) result memory.new }
+{
+    if cuts {
+        cut_apart(memory, kind, a, b)
+    } else {
+        change(memory, kind, a, b)
+    }
+}
+
+// An event: turned down by a test, or made. The kind is any number, and 11 tells those that are none. Inlined: it is small
+// but for `act`.
+#[inline(always)]
 pub fn happen(memory: &mut Memory, kind: u8, a: u8, b: u8) -> Outcome
     requires { InRange memory.old }
     ensures happens { Happening memory.old (event_of kind a b) result memory.new }
@@ -48,7 +66,7 @@ pub fn happen(memory: &mut Memory, kind: u8, a: u8, b: u8) -> Outcome
     match class_of(kind, p.kind) {
         Class::Setting => set(memory, kind, a, b),
         Class::Tracing => walk(memory, a, b),
-        Class::Cutting => cut(memory, kind, a, b),
-        Class::Changing => change(memory, kind, a, b),
+        Class::Cutting => act(memory, true, kind, a, b),
+        Class::Changing => act(memory, false, kind, a, b),
     }
 }

@@ -10,6 +10,7 @@ pub mod happening;
 pub mod parting;
 pub mod running;
 mod setting;
+pub mod single;
 pub mod source;
 mod walking;
 

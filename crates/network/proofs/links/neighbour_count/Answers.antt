@@ -1,15 +1,32 @@
--- `links::neighbour_count` meets its contract: the neighbours below n are counted.
-use Rattle.std.proofs.Common.{rules, tests, arith, refl, ap, length, ◌∙◌}
-use Rattle.std.proofs.lemmas.Iterator.{YieldsList-from_range}
-use Rattle.std.proofs.lemmas.Iterator.Consumers.{YieldsList-from_filter, YieldsList-at, count_from_yields_List}
+-- `links::neighbour_count` meets its contract: the neighbours below b are counted.
+use Prim.Native.Nat.{suc, ◌+◌}
+use mathlib.Core.Path.{◌≡◌, refl, ap, ◌∙◌}
+use mir.Val.{bool_byte}
+use native.Mathlib.Omega.{arith}
+use Rattle.base.specs.Lists.{below}
+use Rattle.base.proofs.Loops.{below_length}
 use Rattle.model.specs.Memory.{link_in}
-use Rattle.network.proofs.Chains.{filter-range}
+use Rattle.network.proofs.Chains.{below-counted}
 use Rattle.network.proofs.links.neighbour_count.Goals as goal
 
+pub loop-b-init : goal.loop-b-init
+unfolding below
+loop-b-init c = refl
+
+pub overflow_add-count : goal.overflow_add-count
+overflow_add-count c =
+    let up = link_in c.args.links c.args.a in
+    let b = c.loop-b.b in
+    let told = ap bool_byte c.linked.ensures in
+    record { fits = omega (arith, c.loop-b.invariant, c.from-count.ensures ∙ told, below-counted b up, below_length up (suc b)) }
+
+pub loop-b-preserved : goal.loop-b-preserved
+loop-b-preserved c =
+    let up = link_in c.args.links c.args.a in
+    let b = c.loop-b.b in
+    let told = ap bool_byte c.linked.ensures in
+    let next : b + 1 ≡ suc b = omega arith in
+    rw next (omega (arith, c.loop-b.invariant, c.from-count.ensures ∙ told, below-counted b up))
+
 pub returns : goal.returns
-returns c =
-    let args = c.args in
-    count_from_yields_List c.filter.result _ c.count.ensures.ran
-    (YieldsList-from_filter _ (link_in args.links args.a) (YieldsList-at c.filter.ensures.source (YieldsList-from_range 0 args.n args.n refl (omega arith)))
-    c.filter.ensures.closure (λ x r q k. search (rules, tests)))
-    ∙ ap length (filter-range args.n _)
+returns c = let e : c.loop-b.b ≡ c.args.n = omega arith in rw e at c.loop-b.invariant

@@ -14,7 +14,7 @@ use Rattle.network.specs.View.{body_of, packets_of}
 use Rattle.network.proofs.Bounds.{array-length}
 use Rattle.network.proofs.PacketLaws.{held_more}
 use Rattle.network.proofs.packets.broadcast.Goals as goal
-use Rattle.network.proofs.packets.broadcast.Goals.{then-link_up, else-link_up}
+use Rattle.network.proofs.packets.broadcast.Goals.{then-linked, else-linked}
 
 -- Where b is a neighbour there is room for its copy.
 room :
@@ -29,11 +29,11 @@ loop-b-init c =
 
 pub bounds-packets-end : goal.bounds-packets-end
 bounds-packets-end c =
-    room c.args.links c.args.a c.args.n c.args.count _ _ (omega arith) c.link_up.ensures c.if-link_up.true c.loop-b.invariant.0 c.requires.a_bound
+    room c.args.links c.args.a c.args.n c.args.count _ _ (omega arith) c.linked.ensures c.if-linked.true c.loop-b.invariant.0 c.requires.a_bound
 
 pub overflow_add-end : goal.overflow_add-end
 overflow_add-end c =
-    let under = room c.args.links c.args.a c.args.n c.args.count _ _ (omega arith) c.link_up.ensures c.if-link_up.true c.loop-b.invariant.0 c.requires.a_bound in
+    let under = room c.args.links c.args.a c.args.n c.args.count _ _ (omega arith) c.linked.ensures c.if-linked.true c.loop-b.invariant.0 c.requires.a_bound in
     record { fits = omega (arith, under) }
 
 pub loop-b-preserved : goal.loop-b-preserved
@@ -42,16 +42,16 @@ loop-b-preserved c =
     let at = c.loop-b in
     let up = link_in args.links args.a in
     let copy : ℕ → model.Packet = λ x. packet args.a x (body_of args.p) args.p.serial in
-    elim c.if-link_up.branch [
-      | then-link_up w ↦
-          let yes = sym c.link_up.ensures ∙ w.if-link_up.true in
+    elim c.if-linked.branch [
+      | then-linked w ↦
+          let yes = sym c.linked.ensures ∙ w.if-linked.true in
           let more = ap length (below-yes up at.b yes) ∙ length-append (below at.b up) (at.b ∷ []) in (
             omega (arith, w.end-is, more, at.invariant.0),
             rw (w.packets-is, w.end-is, map-below-yes up copy (packets_of args.packets args.count) at.b yes, ← w.addressed.ensures)
-                (held_more _ _ _ at.invariant.1 _ (room args.links args.a args.n args.count _ _ (omega arith) c.link_up.ensures w.if-link_up.true at.invariant.0 c.requires.a_bound)),
+                (held_more _ _ _ at.invariant.1 _ (room args.links args.a args.n args.count _ _ (omega arith) c.linked.ensures w.if-linked.true at.invariant.0 c.requires.a_bound)),
           )
-      | else-link_up w ↦
-          let no = sym c.link_up.ensures ∙ w.if-link_up.false in (
+      | else-linked w ↦
+          let no = sym c.linked.ensures ∙ w.if-linked.false in (
             omega (arith, w.end-is, ap length (below-no up at.b no), at.invariant.0),
             rw (w.packets-is, w.end-is, map-below-no up copy (packets_of args.packets args.count) at.b no) at.invariant.1,
           )

@@ -1,11 +1,7 @@
 -- `events::event` meets its contract: refused with 1, or the event on memory in range.
-use Rattle.base.proofs.Booleans.{was-true, was-false}
-use Rattle.network.proofs.Bounds.{sized}
+use Rattle.base.proofs.Booleans.{was-false}
 use Rattle.steps.proofs.HappenLaws.{happens-out-of-range}
 use Rattle.sandbox.proofs.events.event.Goals as goal
 
 pub returns-then-not-in_range : goal.returns-then-not-in_range
 returns-then-not-in_range c = happens-out-of-range _ _ _ _ (was-false _ _ c.in_range.ensures c.if-not-in_range.true)
-
-pub happen-told-requires : goal.happen-told-requires
-happen-told-requires c = record { ranged = was-true _ _ c.in_range.ensures c.if-not-in_range.false; sized = sized c.args.memory c.well_formed.0 }

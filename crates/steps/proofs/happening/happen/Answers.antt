@@ -25,23 +25,23 @@ set-requires c = record {
 pub returns-in-Setting : goal.returns-in-Setting
 returns-in-Setting c = record { happens = c.set.ensures; known = happens-known c.args.memory.now _ _ c.set.ensures c.requires }
 
-pub cut-requires : goal.cut-requires
-cut-requires c = record {
+pub act-requires : goal.act-requires
+act-requires c = record {
   passed = passes-tests c.spot_of-spot.result c.requires c.spot_of-spot.ensures.call c.pair_place-pair.ensures c.in_default.ensures;
   class = sym c.in-Cutting.ensures;
 }
 
 pub returns-in-Cutting : goal.returns-in-Cutting
-returns-in-Cutting c = record { happens = c.cut.ensures; known = happens-known c.args.memory.now _ _ c.cut.ensures c.requires }
+returns-in-Cutting c = record { happens = c.act.ensures; known = happens-known c.args.memory.now _ _ c.act.ensures c.requires }
 
-pub change-requires : goal.change-requires
-change-requires c = record {
+pub act-requires-in-Changing : goal.act-requires-in-Changing
+act-requires-in-Changing c = record {
   passed = passes-tests c.spot_of-spot.result c.requires c.spot_of-spot.ensures.call c.pair_place-pair.ensures c.in_default.ensures;
   class = sym c.in-Changing.ensures;
 }
 
 pub returns-in-Changing : goal.returns-in-Changing
-returns-in-Changing c = record { happens = c.change.ensures; known = happens-known c.args.memory.now _ _ c.change.ensures c.requires }
+returns-in-Changing c = record { happens = c.act-in-Changing.ensures; known = happens-known c.args.memory.now _ _ c.act-in-Changing.ensures c.requires }
 
 pub walk-requires : goal.walk-requires
 walk-requires c =
