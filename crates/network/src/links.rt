@@ -33,7 +33,7 @@ pub fn neighbour_count(links: [bool; 256], n: u8, a: u8) -> u8
     requires { (n ≤ 16) × (a < 16) }
     ensures { result ≡ length (below n (link_in links a)) }
 {
-    // A sum, which compiles without a branch for each station, as a filter does not.
+    // A sum: it compiles to no branch for each station. A filter has one.
     let mut count = 0;
     for b in 0..n {
         count += u8::from(linked(&links, a, b));

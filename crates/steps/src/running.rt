@@ -12,7 +12,7 @@ use network::Memory;
 use telling::lines::line;
 
 // Events one after the other: those of a list, whose lines the lent array tells; or, where the run drains the air, packet 0 delivered or lost
-// until no packet is left. Not inlined, so that its copies of the memory take no stack of a rehearsal's arrays.
+// until no packet is left. Not inlined, so that the stack of its copies of the memory is free again when a rehearsal prints.
 #[inline(never)]
 pub fn run(
     mut memory: Memory,
