@@ -1,6 +1,6 @@
 -- Which bytes count as memory.
 use Prim.Native.Nat.{ℕ, ◌≤◌, ◌<◌}
-use mathlib.Core.Path.{◌≡◌, refl, ap, ◌∙◌}
+use mathlib.Core.Path.{◌≡◌, refl}
 use mathlib.Core.Bool.{Bool, true, false, not, ◌&&◌}
 use mathlib.Core.List.{List}
 use lib.ListN.{length}
@@ -58,14 +58,8 @@ module _ (bytes : List ℕ) where
   unfolding stored_network
   stored-fresh h = rw h
 
-  pub stored-meant : layout_length ≤ length bytes → has_meaning bytes ≡ true → stored_network bytes ≡ network_in bytes
-  stored-meant long meant = stored_is (not-memory-long long ∙ ap not meant)
-
   pub stored-short : length bytes < layout_length → stored_network bytes ≡ fresh 0 0 0
   stored-short short = stored-fresh (not-memory-short short)
-
-  pub stored-unmeant : layout_length ≤ length bytes → has_meaning bytes ≡ false → stored_network bytes ≡ fresh 0 0 0
-  stored-unmeant long unmeant = stored-fresh (not-memory-long long ∙ ap not unmeant)
 
   pub stored-in-range : memory_in_range (stored_network bytes) ≡ true → not_memory bytes ≡ false
   stored-in-range h = go (not_memory bytes) refl

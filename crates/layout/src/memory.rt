@@ -130,8 +130,8 @@ fn no_stations() -> Memory
     fresh(0, 0, 0)
 }
 
-// The memory that stands in the bytes. Those that hold none give memory of no stations, which is out of range. Inlined: a call needs no copy of
-// its own for it.
+// The memory that stands in the bytes. Those that hold none, as `not_memory` tells, give memory of no stations, which is out of range; that there are enough
+// is known by `Whole`. Inlined: a call needs no copy of its own for it.
 #[inline(always)]
 pub fn load(bytes: &[u8]) -> Memory
     ensures { view result ≡ stored_network bytes.now }

@@ -2,29 +2,15 @@
 use Prim.Native.Nat.{ℕ, zero, suc, ◌+◌, ◌≤◌, ◌<◌}
 use mathlib.Core.Path.{◌≡◌, refl, sym, ap, ap₂, ◌∙◌}
 use mathlib.Core.Bool.{Bool, true, false, cond, ◌&&◌}
-use mathlib.Core.List.{List, [], ◌∷◌, ◌++◌, map}
+use mathlib.Core.List.{List, [], ◌∷◌, map}
 use lib.ListN.{length, get_or, take, length-append}
 use lib.Seq.{get_or-take, length-take-le}
 use native.Mathlib.Omega.{arith}
-use native.Mathlib.Numerals.{add-one}
-use native.Mathlib.Nat.{zero-add}
 use mir.Val.{bool_byte}
 use Rattle.std.specs.Prelude.{if◌then◌else◌}
-use Rattle.std.specs.List.{range_with_len, filter}
-use Rattle.std.proofs.lemmas.List.{map-id}
-use Rattle.std.proofs.lemmas.List.FromFn.{filter_of_map_range_with_len_more}
+use Rattle.std.specs.List.{filter}
 use Rattle.base.specs.Lists.{all_below, below, keep, tabulate}
 use Rattle.base.proofs.Loops.{tabulate-same, tabulate-map}
-
-mapped-range : (n : ℕ) (f : ℕ → Bool) → filter f (map (λ x. x) (range_with_len 0 n)) ≡ below n f
-unfolding below
-mapped-range zero f = refl
-mapped-range (suc n) f =
-    rw add-one at (filter_of_map_range_with_len_more f (λ x. x) 0 n n (zero-add n))
-    ∙ ap (λ (l : List ℕ). l ++ (if f n then n ∷ [] else [])) (mapped-range n f)
-
-pub filter-range : (n : ℕ) (f : ℕ → Bool) → filter f (range_with_len 0 n) ≡ below n f
-filter-range n f = ap (filter f) (sym (map-id (range_with_len 0 n))) ∙ mapped-range n f
 
 -- One number more counts where it passes.
 pub below-counted : (n : ℕ) (f : ℕ → Bool) → length (below (suc n) f) ≡ length (below n f) + bool_byte (f n)

@@ -121,7 +121,7 @@ fn cut(memory: &mut Memory, kind: u8, a: u8, b: u8) -> Outcome
 
 // The same out of line: an event that changes one station alone needs no stack for rows and packets that are cut.
 #[inline(never)]
-pub(crate) fn cut_apart(memory: &mut Memory, kind: u8, a: u8, b: u8) -> Outcome
+pub(crate) fn cut_out_of_line(memory: &mut Memory, kind: u8, a: u8, b: u8) -> Outcome
     requires passed { Passed memory.old kind a b }
     requires class { class_of kind (carried_by memory.old a) ≡ Cutting }
     ensures { Happening memory.old (event_of kind a b) result memory.new }

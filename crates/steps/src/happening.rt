@@ -8,7 +8,7 @@ ghost use Rattle.steps.specs.Happens.{outcome, InRange, Passed, carried_by, Happ
 
 use crate::Outcome;
 use crate::changing::change;
-use crate::cutting::cut_apart;
+use crate::cutting::cut_out_of_line;
 use crate::setting::set;
 use crate::walking::walk;
 use decisions::changing::{Class, class_of, spot_of};
@@ -30,20 +30,20 @@ pub(crate) fn turned_down(why: Refusal) -> Outcome
 
 // An event that may send or drop packets. Not inlined: one that does neither, or is turned down, needs no stack for them.
 #[inline(never)]
-fn act(memory: &mut Memory, cuts: bool, kind: u8, a: u8, b: u8) -> Outcome
+fn send_or_drop(memory: &mut Memory, cuts: bool, kind: u8, a: u8, b: u8) -> Outcome
     requires passed { Passed memory.old kind a b }
     requires class { class_of kind (carried_by memory.old a) ≡ (if cuts then Cutting else Changing) }
     ensures { Happening memory.old (event_of kind a b) result memory.new }
 {
     if cuts {
-        cut_apart(memory, kind, a, b)
+        cut_out_of_line(memory, kind, a, b)
     } else {
         change(memory, kind, a, b)
     }
 }
 
 // An event: turned down by a test, or made. The kind is any number, and 11 tells those that are none. Inlined: it is small
-// but for `act`.
+// but for `send_or_drop`.
 #[inline(always)]
 pub fn happen(memory: &mut Memory, kind: u8, a: u8, b: u8) -> Outcome
     requires { InRange memory.old }
@@ -66,7 +66,7 @@ pub fn happen(memory: &mut Memory, kind: u8, a: u8, b: u8) -> Outcome
     match class_of(kind, p.kind) {
         Class::Setting => set(memory, kind, a, b),
         Class::Tracing => walk(memory, a, b),
-        Class::Cutting => act(memory, true, kind, a, b),
-        Class::Changing => act(memory, false, kind, a, b),
+        Class::Cutting => send_or_drop(memory, true, kind, a, b),
+        Class::Changing => send_or_drop(memory, false, kind, a, b),
     }
 }

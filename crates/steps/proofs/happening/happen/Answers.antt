@@ -25,23 +25,23 @@ set-requires c = record {
 pub returns-in-Setting : goal.returns-in-Setting
 returns-in-Setting c = record { happens = c.set.ensures; known = happens-known c.args.memory.now _ _ c.set.ensures c.requires }
 
-pub act-requires : goal.act-requires
-act-requires c = record {
+pub send_or_drop-requires : goal.send_or_drop-requires
+send_or_drop-requires c = record {
   passed = passes-tests c.spot_of-spot.result c.requires c.spot_of-spot.ensures.call c.pair_place-pair.ensures c.in_default.ensures;
   class = sym c.in-Cutting.ensures;
 }
 
 pub returns-in-Cutting : goal.returns-in-Cutting
-returns-in-Cutting c = record { happens = c.act.ensures; known = happens-known c.args.memory.now _ _ c.act.ensures c.requires }
+returns-in-Cutting c = record { happens = c.send_or_drop.ensures; known = happens-known c.args.memory.now _ _ c.send_or_drop.ensures c.requires }
 
-pub act-requires-in-Changing : goal.act-requires-in-Changing
-act-requires-in-Changing c = record {
+pub send_or_drop-requires-in-Changing : goal.send_or_drop-requires-in-Changing
+send_or_drop-requires-in-Changing c = record {
   passed = passes-tests c.spot_of-spot.result c.requires c.spot_of-spot.ensures.call c.pair_place-pair.ensures c.in_default.ensures;
   class = sym c.in-Changing.ensures;
 }
 
 pub returns-in-Changing : goal.returns-in-Changing
-returns-in-Changing c = record { happens = c.act-in-Changing.ensures; known = happens-known c.args.memory.now _ _ c.act-in-Changing.ensures c.requires }
+returns-in-Changing c = record { happens = c.send_or_drop-in-Changing.ensures; known = happens-known c.args.memory.now _ _ c.send_or_drop-in-Changing.ensures c.requires }
 
 pub walk-requires : goal.walk-requires
 walk-requires c =
